@@ -1,5 +1,6 @@
 -- What bytes begin with, from what their fields give.
 use mathlib.Core.Path.{_≡_, sym, ap, _∙_}
+use mathlib.Core.Bool.{false, cond}
 use mathlib.Core.List.{List}
 use Prim.Native.Nat.{ℕ, _+_, _-_, _≤_, _<_}
 use native.Mathlib.Omega.{arith}
@@ -10,10 +11,10 @@ use Rattle.std.specs.declared.option.Option.the-variants.{Some}
 use Rattle.dayfile.specs.declared.mark.Mark.{Mark}
 use Rattle.dayfile.specs.declared.record.Record.{Record}
 use Rattle.dayfile.specs.declared.fault.Position.{Position}
-use Rattle.dayfile.specs.declared.fault.FileFault.the-variants.{CutShort}
+use Rattle.dayfile.specs.declared.fault.FileFault.the-variants.{CutShort, TooLong}
 use Rattle.dayfile.specs.Marks.{markOf}
 use Rattle.dayfile.specs.Records.{view, byte, size, record-of, Fielded}
-use Rattle.dayfile.specs.Reading.{Step, got, bad, marked, beginning, stands}
+use Rattle.dayfile.specs.Reading.{Step, got, bad, marked, beginning, isTooLong, stands}
 
 -- `&s[p..]` and `rest @ ..` are parts that go up to the length
 pub to-end : (bs : List ℕ) (p : ℕ) → take (length bs - p) (drop p bs) ≡ drop p bs
@@ -36,7 +37,5 @@ module _ (at : Position) (bs : List ℕ) (m : Mark) (two : 2 ≤ length bs) (is 
       sym (known ∙ found)
 
 -- a file that is not too long
-pub in-limit : (file : List ℕ) (at : Position) → length file ≤ 32768 → beginning at (take (length file - at .offset) (drop (at .offset) file)) ≡ stands file at
-in-limit file at h =
-    let e : stands file at ≡ beginning at (drop (at .offset) file) = grind (arith, tells) in
-    ap (beginning at) (to-end file (at .offset)) ∙ sym e
+pub in-limit : (file : List ℕ) (at : Position) → isTooLong file ≡ false → beginning at (take (length file - at .offset) (drop (at .offset) file)) ≡ stands file at
+in-limit file at h = ap (beginning at) (to-end file (at .offset)) ∙ sym (ap (λ b. cond b (bad TooLong) (beginning at (drop (at .offset) file))) h)

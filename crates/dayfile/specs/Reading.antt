@@ -41,9 +41,13 @@ beginning at bs =
     cond (eqb (length bs) 0) end
     (cond (eqb (length bs) 1) (bad (CutShort at)) (marked (markOf (byte bs 0) (byte bs 1)) at (drop 2 bs)))
 
--- what stands at a place of a file; a file of more than 32,768 bytes is a fault as a whole
+-- a day file has at most 32,768 bytes
+abbrev pub isTooLong : List ℕ → Bool
+isTooLong file = ltb 32768 (length file)
+
+-- what stands at a place of a file; a file that is too long is a fault as a whole
 abbrev pub stands : List ℕ → Position → Step
-stands file at = cond (ltb 32768 (length file)) (bad TooLong) (beginning at (drop (at .offset) file))
+stands file at = cond (isTooLong file) (bad TooLong) (beginning at (drop (at .offset) file))
 
 -- The reading of a file from offset p on, where the n-th record would begin: the records there, and the fault that ends
 -- them, if one does.

@@ -92,19 +92,19 @@ fn yard_name<'a>(at: usize, s: &'a [u8]) -> Option<(Record<'a>, usize)>
     requires { ⌜ at + length (now s) < 2 ^ 64 ⌝ }
     ensures { λ r. ⌜ Fielded Yn at (now (s .entry)) r ⌝ }
 {
-    let [yard, len, rest @ ..] = s else {
+    let [yard, len, ..] = s else {
         return None;
     };
-    let len = usize::from(*len);
-    if rest.len() < len {
+    let end = 2 + usize::from(*len);
+    if s.len() < end {
         return None;
     }
     let record = Record::YardName {
         yard: *yard,
         offset: at + 2,
-        name: &rest[0..len],
+        name: &s[2..end],
     };
-    Some((record, 2 + len))
+    Some((record, end))
 }
 
 fn lane<'a>(s: &'a [u8]) -> Option<(Record<'a>, usize)>

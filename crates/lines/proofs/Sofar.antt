@@ -12,11 +12,14 @@ use Rattle.dayfile.specs.declared.fault.RecordFault.{RecordFault}
 use Rattle.dayfile.specs.declared.fault.RecordFault.the-variants.{File, BadName}
 use Rattle.dayfile.specs.declared.reader.Reader.{Reader}
 use Rattle.dayfile.specs.declared.record.Record.{Record}
-use Rattle.dayfile.specs.Faults.{place}
+use Rattle.dayfile.specs.Faults.{place, recordNumber, recordPosition}
 use Rattle.dayfile.specs.Records.{Rec, view}
 use Rattle.dayfile.specs.Reading.{Step, end, got, bad, stands, here, Follows, Next, Fresh, Reads, ends, faulty, misnamed, goes}
 use Rattle.lines.specs.Lines.{recordLine, faultLine}
 use Rattle.lines.specs.Listing.{Lists, linesOf, ended}
+
+abbrev pub fault-line : RecordFault → List ℕ
+fault-line f = faultLine (recordNumber f) (recordPosition f)
 
 -- Whatever the rest of the file reads as, its lines after those that are out already list the whole file.
 pub record Sofar (file : List ℕ) (s : Reader) (out : List ℕ) : Type 0 where
@@ -49,16 +52,16 @@ module _ (file : List ℕ) (s t : Reader) (out : List ℕ) (so : Sofar file s ou
   pub done : Next s (Ok None) t → Lists file out
   done h = done′ (here s) refl h
 
-  stopped′ : (k : Step) → here s ≡ k → (f : RecordFault) → Follows k s (Err f) t → Lists file (out ++ ended (faultLine f))
+  stopped′ : (k : Step) → here s ≡ k → (f : RecordFault) → Follows k s (Err f) t → Lists file (out ++ ended (fault-line f))
   stopped′ end e f h = let d = h .0 in let z : _≡_ {A = ℕ} 0 1 = cc in absurd (omega arith)
   stopped′ (got x q) e f h =
-      subst (λ g. Lists file (out ++ ended (faultLine g))) (sym (h .1)) (so .rest [] (Some (BadName (place (s .count + 1) (s .offset)))) (misnamed x q (stands-at (got x q) e) (h .0)))
+      subst (λ g. Lists file (out ++ ended (fault-line g))) (sym (h .1)) (so .rest [] (Some (BadName (place (s .count + 1) (s .offset)))) (misnamed x q (stands-at (got x q) e) (h .0)))
   stopped′ (bad g) e f h =
       let d = h .0 in
       let same : f ≡ File g = cc in
-      subst (λ r. Lists file (out ++ ended (faultLine r))) (sym same) (so .rest [] (Some (File g)) (faulty g (stands-at (bad g) e)))
+      subst (λ r. Lists file (out ++ ended (fault-line r))) (sym same) (so .rest [] (Some (File g)) (faulty g (stands-at (bad g) e)))
 
-  pub stopped : (f : RecordFault) → Next s (Err f) t → Lists file (out ++ ended (faultLine f))
+  pub stopped : (f : RecordFault) → Next s (Err f) t → Lists file (out ++ ended (fault-line f))
   stopped f h = stopped′ (here s) refl f h
 
   more′ : (k : Step) → here s ≡ k → (y : Record) → Follows k s (Ok (Some y)) t → Sofar file t (out ++ ended (recordLine (s .count + 1) (view y)))

@@ -4,9 +4,8 @@ use mathlib.Core.List.{List, [], _∷_, _++_}
 use Prim.Native.Nat.{ℕ}
 use lib.Chars.{codes}
 use Rattle.std.specs.Written.{decimal}
-use Rattle.dayfile.specs.declared.fault.RecordFault.{RecordFault}
+use Rattle.dayfile.specs.declared.fault.Position.{Position}
 use Rattle.dayfile.specs.declared.mark.Mark.the-variants.{Hz, Yn, Ln, Dp, Sd, Hd, Bk, Rl, Qt, Rs}
-use Rattle.dayfile.specs.Faults.{recordNumber, recordPosition}
 use Rattle.dayfile.specs.Marks.{letters}
 use Rattle.dayfile.specs.Names.{isText}
 use Rattle.dayfile.specs.Records.{Rec, opening, yard-name, lane, depot, departure, hold, book, release, quote, run-sheet}
@@ -38,7 +37,6 @@ recordText run-sheet = letters Rs
 abbrev pub recordLine : ℕ → Rec → List ℕ
 recordLine n x = words (decimal n ∷ recordText x ∷ [])
 
--- the line of a fault: its number and where it was met
-abbrev pub faultLine : RecordFault → List ℕ
-faultLine f =
-    words (decimal (recordPosition f .nth) ∷ codes "??" ∷ codes "no" ∷ decimal (recordNumber f) ∷ codes "at" ∷ decimal (recordPosition f .offset) ∷ [])
+-- the line of a fault: its number, and where it was met
+abbrev pub faultLine : ℕ → Position → List ℕ
+faultLine k at = words (decimal (at .nth) ∷ codes "??" ∷ codes "no" ∷ decimal k ∷ codes "at" ∷ decimal (at .offset) ∷ [])

@@ -5,6 +5,7 @@ use Prim.Native.Nat.{ℕ, _+_}
 use Rattle.std.specs.declared.option.Option.{Option}
 use Rattle.std.specs.declared.option.Option.the-variants.{Some, None}
 use Rattle.dayfile.specs.declared.fault.RecordFault.{RecordFault}
+use Rattle.dayfile.specs.Faults.{recordNumber, recordPosition}
 use Rattle.dayfile.specs.Records.{Rec, view}
 use Rattle.std.specs.Of.String.{string-bytes}
 use Rattle.std.specs.declared.alloc.Global.{Global}
@@ -25,7 +26,7 @@ ended l = l ++ (10 ∷ [])
 -- a line for each record, of which the first is the n-th, and one for the fault, if there is one
 abbrev pub linesOf : ℕ → List Rec → Option RecordFault → List ℕ
 linesOf n [] None = []
-linesOf n [] (Some f) = ended (faultLine f)
+linesOf n [] (Some f) = ended (faultLine (recordNumber f) (recordPosition f))
 linesOf n (x ∷ xs) f = ended (recordLine n x) ++ linesOf (n + 1) xs f
 
 -- The text lists the file: it has the lines of the file's reading.

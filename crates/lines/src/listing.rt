@@ -15,7 +15,7 @@ use std::alloc::Global;
 
 // Adds a line, with the line feed that ends it.
 fn push_line(out: &mut String, line: &str) -> Result<(), AllocError>
-    ensures { λ r. ⌜ made r (λ _. string-bytes (now (out .exit)) ≡ string-bytes (now (out .entry)) ++ ended (now (line .entry))) ⌝ }
+    ensures { λ r. ⌜ made r (λ _. string-bytes (now (out .exit)) ≡ ended (string-bytes (now (out .entry)) ++ now (line .entry))) ⌝ }
 {
     out.push_str(line)?;
     out.push_str("\n")?;

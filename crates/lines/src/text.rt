@@ -4,6 +4,7 @@ ghost use mathlib.Core.Bool.{true, false};
 ghost use Rattle.std.specs.Of.String.{string-bytes};
 ghost use Rattle.std.specs.Options.{Cases};
 ghost use Rattle.std.specs.Vec.{made};
+ghost use Rattle.dayfile.specs.Faults.{recordNumber, recordPosition};
 ghost use Rattle.dayfile.specs.Names.{isText};
 ghost use Rattle.dayfile.specs.Records.{view};
 ghost use Rattle.lines.specs.Lines.{faultLine, recordLine};
@@ -59,9 +60,14 @@ pub fn record_line(heap: Global, nth: usize, entry: Record) -> Result<String, Al
 
 // The line of a fault, which is the last.
 pub fn fault_line(heap: Global, fault: RecordFault) -> Result<String, AllocError>
-    ensures { λ r. ⌜ made r (λ s. string-bytes s ≡ faultLine fault) ⌝ }
+    ensures { λ r. ⌜ made r (λ s. string-bytes s ≡ faultLine (recordNumber fault) (recordPosition fault)) ⌝ }
 {
-    let number = fault.number();
-    let Position { nth, offset } = fault.position();
+    numbered_line(heap, fault.number(), fault.position())
+}
+
+fn numbered_line(heap: Global, number: u8, position: Position) -> Result<String, AllocError>
+    ensures { λ r. ⌜ made r (λ s. string-bytes s ≡ faultLine number position) ⌝ }
+{
+    let Position { nth, offset } = position;
     format!(heap, "{nth} ?? no {number} at {offset}")
 }

@@ -2,7 +2,7 @@
 ghost use mathlib.Core.Path.{_≡_};
 ghost use Prim.Native.Nat.{_+_, _<_, _^_};
 ghost use lib.ListN.{length};
-ghost use Rattle.dayfile.specs.Reading.{Fresh, Moves, Next, One-reading, Shows, beginning, placeOf, seen};
+ghost use Rattle.dayfile.specs.Reading.{Fresh, Moves, Next, One-reading, Shows, beginning, isTooLong, placeOf, seen};
 ghost use Rattle.dayfile.specs.Records.{view, well-named};
 use crate::fault::FileFault;
 use crate::fault::Position;
@@ -15,13 +15,12 @@ use crate::record::Record;
 use crate::record::of_fields;
 
 // The most bytes that a day file may have.
-pub const FILE_LIMIT: usize = 32768;
+const FILE_LIMIT: usize = 32768;
 
 impl<'a> Reader<'a> {
     // A reader at the start of a file.
     pub fn new(file: &'a [u8]) -> Reader<'a>
-        ensures fresh { λ r. ⌜ Fresh (now (file .entry)) r ⌝ }
-        ensures one { λ _. ⌜ One-reading ⌝ }
+        ensures { λ r. ⌜ Fresh (now (file .entry)) r ⌝ }
     {
         Reader {
             file,
@@ -44,7 +43,7 @@ impl<'a> Reader<'a> {
     fn peek(&self) -> Result<Option<(Record<'a>, usize)>, FileFault>
         ensures { λ r. ⌜ Shows (now (self .entry)) r ⌝ }
     {
-        if self.file.len() > FILE_LIMIT {
+        if is_too_long(self.file) {
             return Err(FileFault::TooLong);
         }
         match first(self.position(), &self.file[self.offset..]) {
@@ -68,6 +67,13 @@ impl<'a> Reader<'a> {
         self.count += 1;
         Ok(Some(record))
     }
+}
+
+// Whether a file has more bytes than a day file may have.
+fn is_too_long(file: &[u8]) -> bool
+    ensures { λ r. ⌜ r ≡ isTooLong (now (file .entry)) ⌝ }
+{
+    file.len() > FILE_LIMIT
 }
 
 // What bytes begin with: nothing, a record and the offset after it, or a fault.
@@ -98,6 +104,11 @@ fn first<'a>(position: Position, s: &'a [u8]) -> Found<'a>
         }
     }
 }
+
+// A file has one reading: the theorem in the contract.
+pub fn one_reading()
+    ensures { λ _. ⌜ One-reading ⌝ }
+{}
 
 // Whether the record has no name, or one that is as a name should be.
 fn is_well_named(found: Record) -> bool
