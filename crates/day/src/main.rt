@@ -1,4 +1,6 @@
 // Lists the records of the day file that comes on standard input.
+#![tactic(auto)]
+
 use lines::listing::listing;
 use std::io;
 use std::io::Read;

@@ -8,7 +8,7 @@ use Rattle.dayfile.specs.declared.fault.Position.{Position}
 use Rattle.dayfile.specs.declared.fault.FileFault.TheVariants.{CutShort, TooLong}
 use Rattle.dayfile.specs.Marks.{mark_of}
 use Rattle.dayfile.specs.Records.{view, byte, size, record_of, Fielded}
-use Rattle.dayfile.specs.Reading.{Step, got, bad, marked, beginning, is_too_long, stands}
+use Rattle.dayfile.specs.Reading.{got, bad, marked, beginning, is_too_long, stands}
 
 -- `&s[p..]` and `rest @ ..` are parts that go up to the length
 pub to_end : (bs : List ℕ) (p : ℕ) → take (length bs - p) (drop p bs) ≡ drop p bs

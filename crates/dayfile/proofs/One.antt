@@ -1,5 +1,5 @@
 -- A file has one reading.
-use Rattle.std.proofs.Common.{◌≡◌, ℕ, ◌+◌, true, false, List, [], ◌∷◌, Some, None, Option, sym, refl, ap, subst, arith}
+use Rattle.std.proofs.Common.{◌≡◌, ℕ, ◌+◌, true, false, List, ◌∷◌, Some, Option, refl, ap, subst, arith}
 use Rattle.dayfile.specs.declared.fault.FileFault.{FileFault}
 use Rattle.dayfile.specs.declared.fault.RecordFault.{RecordFault}
 use Rattle.dayfile.specs.declared.fault.RecordFault.TheVariants.{File}

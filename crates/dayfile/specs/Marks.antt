@@ -1,5 +1,5 @@
 -- The marks of records, by their two letters.
-use Rattle.std.specs.Prelude.{ℕ, Bool, cond, ◌&&◌, List, [], ◌∷◌, Some, None, codes, Option, ◌==◌, slice_index}
+use Rattle.std.specs.Prelude.{ℕ, cond, ◌&&◌, List, [], ◌∷◌, Some, None, codes, Option, ◌==◌, slice_index}
 use Rattle.dayfile.specs.declared.mark.Mark.{Mark}
 use Rattle.dayfile.specs.declared.mark.Mark.TheVariants.{Hz, Yn, Ln, Dp, Sd, Hd, Bk, Rl, Qt, Rs}
 

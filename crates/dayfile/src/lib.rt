@@ -1,4 +1,6 @@
 // Day files: the marks, the records, what can be wrong with them, and a reader over a file's bytes.
+#![tactic(auto)]
+
 pub mod fault;
 pub mod mark;
 pub mod name;

@@ -1,4 +1,6 @@
 // Tests of the day-file reader and of the listing, in a crate of their own, since a crate with tests is proved twice.
+#![tactic(auto)]
+
 #[cfg(test)]
 mod tests {
     use dayfile::fault::{FileFault, Layer, RecordFault};

@@ -1,5 +1,7 @@
 // The theory of flows that serve ranked nodes in the order of their ranks. The definitions and the theorems stand in
 // specs/, and each function here states theorems in its contract, so that the crate is proved only with them.
+#![tactic(auto)]
+
 ghost use Rattle.flow.specs.Checker.{CertifiedFirst, CertifiedMost};
 ghost use Rattle.flow.specs.Example.{ExampleServed};
 ghost use Rattle.flow.specs.Pushing.{Augments, Bounded, NothingFlows, PushCarries, WalkCarries};

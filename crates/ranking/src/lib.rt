@@ -1,4 +1,6 @@
 // Rankings: in which order depots are served, period by period.
+#![tactic(auto)]
+
 ghost use Rattle.std.specs.Prelude.{◌≡◌, ℕ, ◌≤◌};
 ghost use Rattle.ranking.specs.Ranking.{Lawful, Ranking, by_depot, by_depot_lawful, by_period, by_period_lawful};
 

@@ -1,4 +1,6 @@
 // Flows that serve the ranks of a network in their order, with the smallest of the narrowest cuts, over any network.
+#![tactic(auto)]
+
 mod copying;
 mod end;
 mod flood;

@@ -1,5 +1,7 @@
 // Serves the ranks of networks that come as numbers on standard input, and prints the figures and the marks of each.
 // With a number as its argument it serves each network so many times, and says on standard error how long one took.
+#![tactic(auto)]
+
 mod numbers;
 mod trial;
 

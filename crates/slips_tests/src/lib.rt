@@ -1,4 +1,6 @@
 // Tests of the slip table and of lists of slip calls, in a crate of their own, since a crate with tests is proved twice.
+#![tactic(auto)]
+
 #[cfg(test)]
 mod tests {
     use slip_runs::replay::{NoMemory, Outcome, replay};

@@ -15,23 +15,23 @@ added : (out : String Global) (text line : List ℕ) → text ≡ line → ended
 added out text line e = append_assoc (string_bytes out) text (10 ∷ []) ∙ ap (λ l. string_bytes out ++ ended l) e
 
 -- a record was given, and its line was made
-given_line : (c : After-drop-line-in-Ok) → NextLine c.lines.reader (Ok (Some c.in-Some.line)) c.next-line.new.reader
-given_line c = subst (λ o. NextLine c.lines.reader (Ok o) c.next-line.new.reader) c.in-Some.is c.in-Ok.ensures
+given_line : (c : After-drop-line-in-Ok) → NextLine c.lines.reader (Ok (Some c.in-Some.line)) c.next_line.new.reader
+given_line c = subst (λ o. NextLine c.lines.reader (Ok o) c.next_line.new.reader) c.in-Some.is c.in-Ok.ensures
 
-turn : (c : After-drop-line-in-Ok) → Sofar c.args.file.now c.next-line.new.reader (string_bytes c.lines.out ++ ended (string_bytes c.in-Some.line))
+turn : (c : After-drop-line-in-Ok) → Sofar c.args.file.now c.next_line.new.reader (string_bytes c.lines.out ++ ended (string_bytes c.in-Some.line))
 turn c =
     let (y, next, line) = given_line c in
-    subst (λ l. Sofar c.args.file.now c.next-line.new.reader (string_bytes c.lines.out ++ ended l)) (sym line)
-    (more c.args.file.now c.lines.reader c.next-line.new.reader (string_bytes c.lines.out) c.lines.invariant y next)
+    subst (λ l. Sofar c.args.file.now c.next_line.new.reader (string_bytes c.lines.out ++ ended l)) (sym line)
+    (more c.args.file.now c.lines.reader c.next_line.new.reader (string_bytes c.lines.out) c.lines.invariant y next)
 
 pub lines-preserved : goal.lines-preserved
 lines-preserved c =
-    subst (Sofar c.args.file.now c.next-line.new.reader) (sym (c.in-ok-push-line.ensures ∙ added c.lines.out _ _ c.as-str.ensures.value)) (turn c)
+    subst (Sofar c.args.file.now c.next_line.new.reader) (sym (c.in_ok-push_line-in-Ok.ensures ∙ added c.lines.out _ _ c.as_str.ensures.value)) (turn c)
 
 pub lines-smaller : goal.lines-smaller
 lines-smaller c =
     let (y, next, line) = given_line c in
-    falls c.args.file.now c.lines.reader c.next-line.new.reader (string_bytes c.lines.out) c.lines.invariant y next (turn c).bytes
+    falls c.args.file.now c.lines.reader c.next_line.new.reader (string_bytes c.lines.out) c.lines.invariant y next (turn c).bytes
 
 pub returns-in-default : goal.returns-in-default
 returns-in-default c =

@@ -15,4 +15,4 @@ ascii (b ∷ bs) h =
 
 pub unreachable-requires : goal.unreachable-requires
 unreachable-requires c =
-    c.in-Err.ensures.cases.0 (IsUtf8-from_ascii c.args.bytes.now (ascii c.args.bytes.now (sym c.is-text.ensures ∙ c.if-not-is-text.false)))
+    c.in-Err.ensures.cases.0 (IsUtf8-from_ascii c.args.bytes.now (ascii c.args.bytes.now (sym c.is_text.ensures ∙ c.if-not-is_text.false)))

@@ -12,7 +12,7 @@ stands_here s at k short is h =
 
 pub returns-in-End : goal.returns-in-End
 returns-in-End c =
-    stands_here c.args.self.now c.position.result _ (sym c.is-too-long.ensures ∙ c.if-is-too-long.false) c.position.ensures c.in-End.ensures.begins
+    stands_here c.args.self.now c.position.result _ (sym c.is_too_long.ensures ∙ c.if-is_too_long.false) c.position.ensures c.in-End.ensures.begins
 
 pub returns-in-Whole : goal.returns-in-Whole
 returns-in-Whole c =
@@ -21,8 +21,8 @@ returns-in-Whole c =
     let long = ap length (to_end s.file.now s.offset) in
     let rest = length-drop s.offset s.file.now in
     let moves = c.in-Whole.ensures.moves in
-    (stands_here s c.position.result _ (sym c.is-too-long.ensures ∙ c.if-is-too-long.false) c.position.ensures c.in-Whole.ensures.begins, omega arith, omega arith)
+    (stands_here s c.position.result _ (sym c.is_too_long.ensures ∙ c.if-is_too_long.false) c.position.ensures c.in-Whole.ensures.begins, omega arith, omega arith)
 
 pub returns-in-Bad : goal.returns-in-Bad
 returns-in-Bad c =
-    stands_here c.args.self.now c.position.result _ (sym c.is-too-long.ensures ∙ c.if-is-too-long.false) c.position.ensures c.in-Bad.ensures.begins
+    stands_here c.args.self.now c.position.result _ (sym c.is_too_long.ensures ∙ c.if-is_too_long.false) c.position.ensures c.in-Bad.ensures.begins
