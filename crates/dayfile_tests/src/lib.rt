@@ -9,6 +9,8 @@ mod tests {
     use dayfile::reader::Reader;
     use dayfile::record::Record;
     use lines::listing::listing;
+    use std::alloc::Global;
+    use std::process::Abort;
     use std::test::*;
 
     // A file and its listing.
@@ -145,22 +147,22 @@ mod tests {
         },
     ];
 
-    fn check_table(rt: HostRuntime, cases: &[Case]) -> Result<(), Fail> {
+    fn check_table(rt: &impl Abort, alloc: Global, cases: &[Case]) -> Result<(), Fail> {
         for case in cases {
-            let text = listing(rt.alloc(), case.file)?;
-            assert!(text.as_str() == case.text, "{}", case.text);
+            let text = listing(alloc, case.file)?;
+            assert!(rt; text.as_str() == case.text, "{}", case.text);
         }
         Ok(())
     }
 
     #[test]
     fn lists_each_mark(rt: HostRuntime) -> Result<(), Fail> {
-        check_table(rt, &RECORDS)
+        check_table(&rt, rt.alloc(), &RECORDS)
     }
 
     #[test]
     fn lists_up_to_a_fault(rt: HostRuntime) -> Result<(), Fail> {
-        check_table(rt, &FAULTS)
+        check_table(&rt, rt.alloc(), &FAULTS)
     }
 
     // Every cut of every record is 8, whichever record it is.
@@ -278,7 +280,7 @@ mod tests {
         };
         assert_eq!(rt; yard, 3);
         assert_eq!(rt; offset, 6);
-        assert!(rt; name == b"ab");
+        assert!(rt; name == b"ab".as_slice());
         assert_eq!(rt; reader.position().offset, 8);
         Ok(())
     }

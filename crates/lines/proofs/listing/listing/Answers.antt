@@ -1,7 +1,5 @@
-use Rattle.std.proofs.Common.{◌≡◌, ℕ, List, [], ◌∷◌, ◌++◌, Some, None, Ok, Err, string_bytes, String, sym, ap, ◌∙◌, subst, append_assoc}
+use Rattle.std.proofs.Common.{◌≡◌, ℕ, List, [], ◌∷◌, ◌++◌, Some, Ok, Err, string_bytes, String, sym, ap, ◌∙◌, subst, append_assoc}
 use Rattle.std.specs.declared.alloc.Global.{Global}
-use Rattle.lines.specs.declared.fault.DayFault.TheVariants.{Record}
-use Rattle.lines.specs.Lines.{record_line}
 use Rattle.lines.specs.Listing.{Lists, NextLine, ended}
 use Rattle.lines.proofs.Sofar.{Sofar, start, done, stopped, more, falls}
 use Rattle.lines.proofs.listing.listing.Goals as goal
@@ -33,14 +31,14 @@ lines-smaller c =
     let (y, next, line) = given_line c in
     falls c.args.file.now c.lines.reader c.next_line.new.reader (string_bytes c.lines.out) c.lines.invariant y next (turn c).bytes
 
-pub returns-in-default : goal.returns-in-default
-returns-in-default c =
-    done c.args.file.now c.lines.reader c.next-line.new.reader (string_bytes c.lines.out) c.lines.invariant
-    (subst (λ o. NextLine c.lines.reader (Ok o) c.next-line.new.reader) c.in-default.is c.in-Ok.ensures)
+pub returns-in_default : goal.returns-in_default
+returns-in_default c =
+    done c.args.file.now c.lines.reader c.next_line.new.reader (string_bytes c.lines.out) c.lines.invariant
+    (subst (λ o. NextLine c.lines.reader (Ok o) c.next_line.new.reader) c.in_default.is c.in-Ok.ensures)
 
 pub returns-in-Err : goal.returns-in-Err
 returns-in-Err c =
-    let line = c.in-ok-push-line-2.ensures ∙ added c.lines.out _ _ (c.as-str-in-Err.ensures.value ∙ c.in-ok-line.ensures) in
+    let line = c.in_ok-push_line-in-Err.ensures ∙ added c.lines.out _ _ (c.as_str-in-Err.ensures.value ∙ c.in_ok-line-in-Err.ensures) in
     subst (Lists c.args.file.now) (sym line)
-    (stopped c.args.file.now c.lines.reader c.next-line.new.reader (string_bytes c.lines.out) c.lines.invariant c.in-Record.fault
-    (subst (λ f. NextLine c.lines.reader (Err f) c.next-line.new.reader) c.in-Record.is c.in-Err.ensures))
+    (stopped c.args.file.now c.lines.reader c.next_line.new.reader (string_bytes c.lines.out) c.lines.invariant c.in-Record.fault
+    (subst (λ f. NextLine c.lines.reader (Err f) c.next_line.new.reader) c.in-Record.is c.in-Err.ensures))
