@@ -1,6 +1,6 @@
 -- From a search of the residual arcs to a walk, and from a walk to a better flow.
 use Rattle.std.proofs.Common.{◌≡◌, ℕ, zero, suc, ◌+◌, ◌-◌, ◌<◌, ◌≤◌, Bool, true, false, cond, not, ◌&&◌, ◌||◌, eqb, ltb, ◌≢◌, List, [], ◌∷◌, length, get_or, Some, None, Option, refl, inl, inr, ⊎_elim, arith}
-use Rattle.std.specs.List.{AllByRecursion as All}
+use Rattle.std.specs.List.{AllByRecursion}
 use Rattle.std.proofs.ByRecursion.{All-weaker}
 use Rattle.std.proofs.lemmas.Bool.{cases_eq, and_from, and_parts, or_cases, or_left, or_right, eqb-true, eq-eqb, ne_eqb, ltb-true, lt-ltb, not-true, not_from_false, both_ways, cond-true, cond-false}
 use Rattle.flow.specs.Network.{Network, Sound, total, Along, Closed, arriving, leaving, is_ranked, below, is_below, Balanced, brought, Flow, Settled}
@@ -120,7 +120,7 @@ module _ (N : Network) (k : ℕ) (f : List ℕ) (R : ℕ → Bool) (parent : ℕ
   Upto v q = (order (start_of N q) < order (stop_of N q)) × (order (stop_of N q) ≤ order v)
 
   PathTo : ℕ → Type 0
-  PathTo v = (w : Walked N k f v) × All (Upto v) w.steps
+  PathTo v = (w : Walked N k f v) × AllByRecursion (Upto v) w.steps
 
   found_walk : (v : ℕ) → ((w : ℕ) → order w < order v → R w ≡ true → PathTo w) → (o : Option Step) → Found N k f R order o v → PathTo v
   unfolding PathTo Upto

@@ -1,6 +1,6 @@
 -- A push along one arc and along a walk, and the flow that it leaves.
 use Rattle.std.proofs.Common.{◌≡◌, ℕ, zero, suc, ◌+◌, ◌-◌, ◌<◌, ◌≤◌, Bool, true, false, cond, eqb, ◌≢◌, List, [], ◌∷◌, length, get_or, set, replicate, Some, None, Option, sym, refl, ap, ◌∙◌, ⊎_elim, arith}
-use Rattle.std.specs.List.{AllByRecursion as All}
+use Rattle.std.specs.List.{AllByRecursion}
 use Rattle.std.proofs.lemmas.List.{get_or-set_other}
 use Rattle.std.proofs.lemmas.Bool.{cases_eq, eq-eqb, ne_eqb, both_ways}
 use Rattle.flow.specs.Network.{Arc, Network, Sound, spread, Along, carried, arriving, leaving, ranked, is_ranked, below, is_below, Balanced, brought, Flow}
@@ -72,7 +72,7 @@ pub carries_on : CarriesOn
 carries_on N f g h d t v w first next u = omega (arith, first u, next u)
 
 -- a push leaves what other arcs have to spare
-walk_kept : (N : Network) (f : List ℕ) (d i y : ℕ) (ps : List Step) (s t : ℕ) → All (λ q. q.arc ≢ i) ps → Walk N f d ps s t → Walk N (set f i y) d ps s t
+walk_kept : (N : Network) (f : List ℕ) (d i y : ℕ) (ps : List Step) (s t : ℕ) → AllByRecursion (λ q. q.arc ≢ i) ps → Walk N f d ps s t → Walk N (set f i y) d ps s t
 walk_kept N f d i y [] s t away w = w
 walk_kept N f d i y (p ∷ ps) s t away w =
     let same = get_or-set_other f i p.arc y 0 away.0 in

@@ -1,6 +1,6 @@
 -- Pushing an amount along a residual walk: what it does to what arrives and leaves, and that it makes a flow of a flow.
 use Rattle.std.specs.Prelude.{◌≡◌, ℕ, ◌+◌, ◌-◌, ◌<◌, ◌≤◌, Bool, true, cond, ◌≢◌, ◌⊎◌, List, [], ◌∷◌, length, replicate, ◌==◌, nat_eq, slice_index, slice_index_or, slice_set}
-use Rattle.std.specs.List.{AllByRecursion as All}
+use Rattle.std.specs.List.{AllByRecursion}
 use Rattle.flow.specs.Network.{Arc, Network, Sound, Along, arriving, leaving, ranked, below, brought, Flow, width}
 
 abbrev pub no_arc : Arc
@@ -45,7 +45,7 @@ CarriesOn = (N : Network) (f g h : List ℕ) (d t v w : ℕ) → Carries N f g d
 -- The steps lead back from t to s, over no arc twice, and each has d to spare under f.
 abbrev pub Walk : Network → List ℕ → ℕ → List Step → ℕ → ℕ → Type 0
 Walk N f d [] s t = s ≡ t
-Walk N f d (p ∷ ps) s t = (stop_of N p ≡ t) × (p.arc < length N.arcs) × (d ≤ spare N f p) × All (λ q. q.arc ≢ p.arc) ps × Walk N f d ps s (start_of N p)
+Walk N f d (p ∷ ps) s t = (stop_of N p ≡ t) × (p.arc < length N.arcs) × (d ≤ spare N f p) × AllByRecursion (λ q. q.arc ≢ p.arc) ps × Walk N f d ps s (start_of N p)
 
 abbrev pub push_all : List ℕ → List Step → ℕ → List ℕ
 push_all f [] d = f
