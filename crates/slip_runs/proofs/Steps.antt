@@ -197,7 +197,7 @@ pub step_between : {w u : World} {r : Request} {a : Answer} → Step w r a u →
 step_between {w} (Step.accepts s e lt) = holds_between w s e
 step_between {w} (Step.none_left le) = idle w
 step_between {w} (Step.picks_up s e) = picks_between w s e
-step_between {w} (Step.not-Pinned ne) = idle w
+step_between {w} (Step.not_pinned ne) = idle w
 step_between {w} (Step.pins {i} {s} at e) = pins_between w i s at e
 step_between {w} (Step.books {i} {s} at e) = books_between w i s at e
 step_between {w} (Step.releases {i} {s} at e) = releases_between w i s at e

@@ -59,7 +59,7 @@ module _ (t t' : SlipTable) (h : List Slip) where
   pub unpinned_step : (n : ℕ) (why : SlipRefusal) → PickedUp t n (Err why) t' → Step (made (holds t) h) (PickUp n) (answer.Refused why) (made (holds t') h)
   unpinned_step n why e =
       let w = not_picked t t' n why e in
-      rewritten (Step.not-Pinned w.0) (ap answer.Refused (sym w.1)) (made_same (ap holds (sym w.2)) refl)
+      rewritten (Step.not_pinned w.0) (ap answer.Refused (sym w.1)) (made_same (ap holds (sym w.2)) refl)
 
   module _ (i : ℕ) (s : Slip) (at : slice_get h i ≡ Some s) where
     spend_rule : (a : Act) → Spent (call_of a) t s (Ok tt) t'

@@ -1,8 +1,9 @@
 -- What is owed, hold by hold and call by call.
 use Rattle.std.proofs.Common.{◌≡◌, ℕ, ◌+◌, ◌*◌, ◌<◌, ◌≤◌, Bool, true, false, cond, eqb, List, [], ◌∷◌, ◌++◌, length, get_or, take, set, Some, Ok, Err, Result, sym, refl, ap, ◌∙◌, subst, inl, inr, mul-le-mul_right, arith}
-use Rattle.std.specs.List.{AllByRecursion as All}
+use Rattle.std.specs.List.{All}
 use Rattle.std.proofs.ByRecursion.{All-weaker, sum_by_le}
 use Rattle.std.proofs.lemmas.Option.{slice_get-get_or}
+use Rattle.std.proofs.lemmas.List.Elements.{recursion_from_All}
 use Rattle.std.proofs.lemmas.List.Sums.{sum_by_more, sum_by_push, sum_by-set}
 use Rattle.slips.specs.declared.moves.Move.TheVariants.{To, Stay, Refused}
 use Rattle.slips.specs.declared.moves.SlipCall.{SlipCall}
@@ -105,6 +106,7 @@ owes_most d p e h =
 -- holds of at most p pallets each
 pub owed_most : (d p : ℕ) (hs : List Entry) → length hs ≤ 512 → All (λ e. e.pallets ≤ p) hs → owed_at d hs ≤ 512 * p
 owed_most d p hs few each =
+    let each = recursion_from_All (λ e. e.pallets ≤ p) hs each in
     let sum = sum_by_le (owes d) p hs (All-weaker (λ e. e.pallets ≤ p) (λ e. owes d e ≤ p) (owes_most d p) hs each) in
     omega (arith, mul-le-mul_right p few)
 

@@ -1,6 +1,5 @@
 -- What is owed at a depot, and how the calls change it.
-use Rattle.std.specs.Prelude.{◌≡◌, ℕ, ◌+◌, ◌*◌, ◌≤◌, cond, List, Ok, sum_by, Result, ◌==◌, ◌≢◌}
-use Rattle.std.specs.List.{AllByRecursion as All}
+use Rattle.std.specs.Prelude.{◌≡◌, ℕ, ◌+◌, ◌*◌, ◌≤◌, cond, List, Ok, All, sum_by, Result, ◌==◌, ◌≢◌}
 use Rattle.slips.specs.declared.moves.SlipCall.{SlipCall}
 use Rattle.slips.specs.declared.moves.SlipCall.TheVariants.{Release}
 use Rattle.slips.specs.declared.moves.SlipState.{SlipState}

@@ -27,7 +27,7 @@ returns-in-Err c =
     let hand = vec_items c.args.hand.now in
     let within : c.args.place < vec_len c.args.hand.now = search rules in
     let at = slice_get_read hand _ c.args.place c.remove-slip.result c.args.hand.now.ok.0 within c.remove-slip.ensures.value in
-    let put = c.put-back.ensures.items ∙ ap (λ (l : List Slip). insert l c.args.place c.in-Err.field-0.slip) c.remove-slip.ensures.items in
+    let put = c.put_back.ensures.items ∙ ap (λ (l : List Slip). insert l c.args.place c.in-Err.field-0.slip) c.remove-slip.ensures.items in
     record {
       step = refuse_step c.args.table.now c.spend.new.table hand c.args.place c.remove-slip.result at c.in-Err.field-0 _ put c.args.act
           c.in-Err.ensures;

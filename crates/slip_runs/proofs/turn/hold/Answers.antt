@@ -4,7 +4,7 @@ use Rattle.slip_runs.proofs.turn.hold.Goals as goal
 
 pub returns-in-Ok : goal.returns-in-Ok
 returns-in-Ok c = record {
-  step = hold_step c.args.table.now _ (vec_items c.args.hand.now) _ _ c.in-Ok.slip _ _ c.in-Ok.ensures c.number-number.ensures c.push-reserved.ensures.items;
+  step = hold_step c.args.table.now _ (vec_items c.args.hand.now) _ _ c.in-Ok.slip _ _ c.in-Ok.ensures c.number-number.ensures c.push_reserved.ensures.items;
   room = search rules;
 }
 

@@ -4,12 +4,12 @@ use Rattle.slip_runs.proofs.turn.pick_up.Goals as goal
 
 pub returns-in-Ok : goal.returns-in-Ok
 returns-in-Ok c = record {
-  step = pick_step c.args.table.now c.pick-up.new.self (vec_items c.args.hand.now) c.args.number c.in-Ok.slip _ c.in-Ok.ensures c.push-reserved.ensures.items;
+  step = pick_step c.args.table.now c.pick_up.new.self (vec_items c.args.hand.now) c.args.number c.in-Ok.slip _ c.in-Ok.ensures c.push_reserved.ensures.items;
   room = search rules;
 }
 
 pub returns-in-Err : goal.returns-in-Err
 returns-in-Err c = record {
-  step = unpinned_step c.args.table.now c.pick-up.new.self (vec_items c.args.hand.now) c.args.number c.in-Err.why c.in-Err.ensures;
+  step = unpinned_step c.args.table.now c.pick_up.new.self (vec_items c.args.hand.now) c.args.number c.in-Err.why c.in-Err.ensures;
   room = search rules;
 }
