@@ -1,8 +1,8 @@
 -- What a layout lays out is a sound network.
 use Rattle.std.proofs.Common.{◌≡◌, ℕ, zero, suc, ◌-◌, ◌*◌, ◌<◌, ◌≤◌, Bool, true, false, cond, ◌&&◌, eqb, leb, List, [], ◌∷◌, length, get_or, take, Some, None, Option, sym, refl, ap, ◌∙◌, subst, ⊎_elim, add-one, arith}
-use mathlib.Core.Path.{fun_ext}
-use native.Mathlib.Nat.{sub-zero}
-use Rattle.std.specs.List.{AllByRecursion as All}
+use Rattle.std.proofs.Math.Path.{fun_ext}
+use Rattle.std.proofs.Math.Nat.{sub-zero}
+use Rattle.std.specs.List.{AllByRecursion}
 use Rattle.std.proofs.ByRecursion.{All-from_get_or}
 use Rattle.std.proofs.lemmas.List.{get_or_past, get_or-take, length-take-le}
 use Rattle.std.proofs.lemmas.Bool.{both_ways, cases_lt, lt-ltb}
@@ -27,7 +27,7 @@ below_code k zero = refl
 below_code k (suc r) = ap (λ b. b && leb (suc r) k) (lt-ltb 0 (suc r) (omega arith))
 
 -- no more leaves the source than fits a counter of 64 bits
-wide_bound : (X : ℕ → Bool) (es : List Arc) → All (λ a. a.capacity ≤ 46075392) es → wide X es ≤ 46075392 * length es
+wide_bound : (X : ℕ → Bool) (es : List Arc) → AllByRecursion (λ a. a.capacity ≤ 46075392) es → wide X es ≤ 46075392 * length es
 wide_bound X [] low = omega arith
 wide_bound X (a ∷ es) low = omega (arith, cond_le (crosses X a) a.capacity, wide_bound X es low.1, low.0)
   where

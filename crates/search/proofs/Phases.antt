@@ -1,6 +1,6 @@
 -- From one k to the next: what is walled off stays so, what is reached last is the new wall, and what was gained is the new figure.
 use Rattle.std.proofs.Common.{◌≡◌, ℕ, suc, ◌+◌, ◌-◌, ◌<◌, ◌≤◌, Bool, true, false, cond, ltb, ◌≢◌, ◌⊎◌, List, [], ◌∷◌, length, get_or, set, replicate, Some, None, Option, sym, refl, ap, ◌∙◌, subst, ap₂, ⊎_elim, arith}
-use mathlib.Core.Path.{fun_ext}
+use Rattle.std.proofs.Math.Path.{fun_ext}
 use Rattle.std.proofs.lemmas.List.{get_or-set_same, get_or-set_other}
 use Rattle.std.proofs.lemmas.Bool.{cases_Bool, cases_lt, lt-ltb, le-ltb, eqb-true, both_ways, cond-true, cond-false}
 use Rattle.flow.specs.Network.{Network, Sound, Flow, Settled, Cut, arriving, leaving, brought, granted, is_at, is_below, is_ranked}

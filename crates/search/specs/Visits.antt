@@ -1,5 +1,5 @@
 -- What the visits of a search say.
-use Rattle.std.specs.Prelude.{◌≡◌, ℕ, ◌+◌, ◌<◌, ◌≤◌, Bool, ltb, ◌≢◌, ◌⊎◌, List, [], ◌∷◌, length, get_or, count_by, nat_lt, slice_index_or}
+use Rattle.std.specs.Prelude.{◌≡◌, ℕ, ◌+◌, ◌<◌, ◌≤◌, Bool, ◌≢◌, ◌⊎◌, List, [], ◌∷◌, length, count_by, nat_lt, slice_index_or}
 use Rattle.flow.specs.Network.{Network}
 use Rattle.search.specs.Ends.{other}
 use Rattle.search.specs.Links.{key}
@@ -15,7 +15,7 @@ abbrev pub visit_of : List Visit → ℕ → Visit
 visit_of visits v = slice_index_or visits v unvisited
 
 abbrev pub level : List Visit → ℕ → ℕ
-level visits v = (get_or visits v unvisited).level
+level visits v = (slice_index_or visits v unvisited).level
 
 abbrev pub reached : List Visit → ℕ → Bool
 reached visits v = nat_lt 0 (level visits v)
@@ -56,7 +56,7 @@ abbrev pub Done : Network → List ℕ → List Visit → End → ℕ → Type 0
 Done N f visits end v = (e : ℕ) → e < length N.arcs → key end N.arcs e ≡ v → Usable N f end e → 0 < level visits (key (other end) N.arcs e)
 
 abbrev pub count : List Visit → ℕ
-count visits = count_by (λ m. ltb 0 m.level) visits
+count visits = count_by (λ m. nat_lt 0 m.level) visits
 
 -- a search under way: `pending` are the nodes reached whose arcs are not all looked at yet
 pub record Searching (N : Network) (f : List ℕ) (visits : List Visit) (pending : List ℕ) : Type 0 where

@@ -7,8 +7,8 @@ use flow::Arc;
 use network::Network;
 
 pub(crate) fn copy_arcs<N: Network>(net: &N, arcs: &mut [Arc])
-    requires { length (meaning net.now).arcs ≤ length arcs.old }
-    ensures { take (length (meaning net.now).arcs) arcs.new ≡ (meaning net.now).arcs }
+    requires { length (N.meaning net.now).arcs ≤ length arcs.old }
+    ensures { take (length (N.meaning net.now).arcs) arcs.new ≡ (N.meaning net.now).arcs }
 {
     for e in 0..net.arc_count() {
         arcs[e] = net.arc(e);
@@ -27,8 +27,8 @@ fn code(rank: Option<u16>) -> u16
 }
 
 pub(crate) fn copy_ranks<N: Network>(net: &N, ranks: &mut [u16])
-    requires { (meaning net.now).nodes ≤ length ranks.old }
-    ensures { (v : ℕ) → v < (meaning net.now).nodes → slice_index ranks.new v ≡ rank_code ((meaning net.now).rank v) }
+    requires { (N.meaning net.now).nodes ≤ length ranks.old }
+    ensures { (v : ℕ) → v < (N.meaning net.now).nodes → slice_index ranks.new v ≡ rank_code ((N.meaning net.now).rank v) }
 {
     for v in 0..net.node_count() {
         ranks[v] = code(net.rank(v));

@@ -244,7 +244,7 @@ pub fn serve<N: Network>(
     figures: &mut [u64],
     work: Work,
 ) -> Result<(), SearchError>
-    ensures answer { Answers (meaning net.now) ranks (has_room work.entry (meaning net.now).nodes (length (meaning net.now).arcs)) loads.old loads.new marks.old marks.new figures.old figures.new result }
+    ensures answer { Answers (N.meaning net.now) ranks (has_room work.entry (N.meaning net.now).nodes (length (N.meaning net.now).arcs)) loads.old loads.new marks.old marks.new figures.old figures.new result }
     ensures untouched { is_ok result ≡ false → (work.exit.0.now ≡ work.entry.arcs.now) × (work.exit.1.0.now ≡ work.entry.next_out.now) × (work.exit.1.1.0.now ≡ work.entry.next_in.now) × (work.exit.1.1.1.0.now ≡ work.entry.ranks.now) × (work.exit.1.1.1.1.0.now ≡ work.entry.first_out.now) × (work.exit.1.1.1.1.1.0.now ≡ work.entry.first_in.now) × (work.exit.1.1.1.1.1.1.0.now ≡ work.entry.visits.now) × (work.exit.1.1.1.1.1.1.1.0.now ≡ work.entry.slots.now) }
 {
     let nodes = net.node_count();

@@ -14,7 +14,7 @@ flood-requires c =
     let room : length (items c.new-waiting.result) < slot_count c.new-waiting.result = omega (arith, ap length made.items, made.capacity, c.requires.slots, c.args.map.within) in
     let queue : items c.push.new.self ≡ N.source ∷ [] = pushed.items (pushed.succeeds room) ∙ ap (λ xs. xs ++ (N.source ∷ [])) made.items in
     let first : Visit = record { level = 1; arc = 0; side = Tail } in
-    let start = first_step N c.args.loads.now c.clear-visits.new.visits first (c.clear-visits.auto.visits ∙ c.requires.visits) c.args.map.within c.clear-visits.ensures refl in
+    let start = first_step N c.args.loads.now c.clear_visits.new.visits first (c.clear_visits.auto.visits ∙ c.requires.visits) c.args.map.within c.clear_visits.ensures refl in
     record { loads = c.requires.loads; slots = pushed.capacity ∙ made.capacity ∙ c.requires.slots; so = rw queue start }
 
 pub returns : goal.returns

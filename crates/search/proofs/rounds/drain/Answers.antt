@@ -13,8 +13,8 @@ feed-more-requires c =
     let so = c.loop-v.invariant.gained in
     record { loads = c.loop-v.auto.loads ∙ c.requires.loads; flow = so.flow; idle = so.idle; tree = c.requires.tree; visits = c.requires.visits; within = omega arith }
 
-pub overflow-add-total : goal.overflow-add-total
-overflow-add-total c =
+pub overflow_add-total : goal.overflow_add-total
+overflow_add-total c =
     let N = laid c.args.map in
     let all = gain_on N c.args.k c.args.loads.now c.loop-v.loads c.feed-more.new.loads c.loop-v.total c.feed-more.result c.loop-v.invariant.gained c.feed-more.ensures.gained in
     omega (arith, gain_bound N (laid_sound c.args.map) c.args.k c.args.loads.now c.feed-more.new.loads (c.loop-v.total + c.feed-more.result) all, source_width c.args.map)

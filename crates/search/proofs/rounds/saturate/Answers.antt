@@ -15,8 +15,8 @@ drain-more-requires c =
     let so = c.rounds.invariant in
     record { loads = c.rounds.auto.loads ∙ c.requires.loads; flow = so.flow; idle = so.idle; tree = c.explore.ensures.tree; visits = c.explore.auto.visits ∙ c.rounds.auto.visits ∙ c.requires.visits }
 
-pub overflow-add-total : goal.overflow-add-total
-overflow-add-total c =
+pub overflow_add-total : goal.overflow_add-total
+overflow_add-total c =
     let N = laid c.args.map in
     let all = gain_on N c.args.k c.args.loads.now c.rounds.loads c.drain-more.new.loads c.rounds.total c.drain-more.result c.rounds.invariant c.drain-more.ensures.gained in
     omega (arith, gain_bound N (laid_sound c.args.map) c.args.k c.args.loads.now c.drain-more.new.loads (c.rounds.total + c.drain-more.result) all, source_width c.args.map)

@@ -14,43 +14,38 @@ link-requires-2 c =
     let w = c.requires.work in
     record { few = c.requires.proper.few_arcs; proper = rw w.first_in c.requires.proper.arcs; next = w.next_in }
 
-pub invariant-of-map : goal.invariant-of-map
-invariant-of-map c =
+pub invariant_of-map : goal.invariant_of-map
+invariant_of-map c =
     let proper = c.requires.proper in
     let w = c.requires.work in
     let out = c.link.ensures in
-    let back = c.link-2.ensures in (
-      proper.few_nodes,
-      (
-        proper.few_arcs,
-        (
-          proper.sound.within,
-          (
-            bare_code _ proper.sound.unranked,
-            (
-              proper.arcs,
-              (
-                out.0 ∙ w.first_out,
-                (out.1, ((λ v l. out.2.0 v (rw w.first_out l), out.2.1), (back.0 ∙ w.first_in, (back.1, ((λ v l. back.2.0 v (rw w.first_in l), back.2.1), tt))))),
-              ),
-            ),
-          ),
-        ),
-      ),
-    )
+    let back = c.link-2.ensures in
+    record {
+      few_nodes = proper.few_nodes;
+      few_arcs = proper.few_arcs;
+      within = proper.sound.within;
+      bare = bare_code _ proper.sound.unranked;
+      proper = proper.arcs;
+      out_nodes = out.0 ∙ w.first_out;
+      out_arcs = out.1;
+      out = (λ v l. out.2.0 v (rw w.first_out l), out.2.1);
+      in_nodes = back.0 ∙ w.first_in;
+      in_arcs = back.1;
+      back = (λ v l. back.2.0 v (rw w.first_in l), back.2.1);
+    }
 
-pub serve-ranks-requires : goal.serve-ranks-requires
-serve-ranks-requires c =
+pub serve_ranks-requires : goal.serve_ranks-requires
+serve_ranks-requires c =
     record {
       ranks = c.requires.ranks;
-      loads = c.clear-loads.auto.loads ∙ c.requires.loads;
+      loads = c.clear_loads.auto.loads ∙ c.requires.loads;
       marks = c.clear.auto.list ∙ c.requires.marks;
       figures = c.requires.figures;
       visits = c.requires.work.visits;
       slots = c.requires.work.slots;
-      start = standing_start (copy_of c.args.source c.args.work.arcs.now c.args.work.ranks.now) c.clear-loads.new.loads c.clear.new.list c.args.figures.now (c.clear-loads.auto.loads ∙ c.requires.loads) c.clear-loads.ensures c.clear.ensures;
+      start = standing_start (copy_of c.args.source c.args.work.arcs.now c.args.work.ranks.now) c.clear_loads.new.loads c.clear.new.list c.args.figures.now (c.clear_loads.auto.loads ∙ c.requires.loads) c.clear_loads.ensures c.clear.ensures;
     }
 
 pub returns : goal.returns
 returns c =
-    served_all (copy_of c.args.source c.args.work.arcs.now c.args.work.ranks.now) c.requires.proper.sound c.args.ranks c.serve-ranks.new.loads c.serve-ranks.new.marks c.serve-ranks.new.figures c.serve-ranks.ensures
+    served_all (copy_of c.args.source c.args.work.arcs.now c.args.work.ranks.now) c.requires.proper.sound c.args.ranks c.serve_ranks.new.loads c.serve_ranks.new.marks c.serve_ranks.new.figures c.serve_ranks.ensures

@@ -3,8 +3,8 @@ use Rattle.std.proofs.lemmas.Slice.{overwrites}
 use Rattle.search.proofs.Layouts.{proper_part, served_part}
 use Rattle.search.proofs.serving.serve_within.Goals as goal
 
-pub serve-copy-requires : goal.serve-copy-requires
-serve-copy-requires c =
+pub serve_copy-requires : goal.serve_copy-requires
+serve_copy-requires c =
     record {
       ranks = c.requires.ranks;
       proper = proper_part c.args.source c.args.count c.args.nodes c.args.work.arcs.now c.args.work.ranks.now c.requires.proper;
@@ -17,7 +17,7 @@ serve-copy-requires c =
 pub returns : goal.returns
 returns c =
     record {
-      served = served_part c.args.source c.args.count c.args.nodes c.args.work.arcs.now c.args.work.ranks.now c.args.ranks _ _ _ _ _ _ c.serve-copy.ensures (search (rules, overwrites)) (search (rules, overwrites)) (search (rules, overwrites));
+      served = served_part c.args.source c.args.count c.args.nodes c.args.work.arcs.now c.args.work.ranks.now c.args.ranks _ _ _ _ _ _ c.serve_copy.ensures (search (rules, overwrites)) (search (rules, overwrites)) (search (rules, overwrites));
       loads = search (rules, overwrites);
       marks = search (rules, overwrites);
       figures = search (rules, overwrites);
