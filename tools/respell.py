@@ -5,7 +5,8 @@
 
 Types, and definitions whose name has a capital first, are in upper camel case; every other definition, lemma, field
 and constructor is in snake case. A lemma whose name would be that of a function of src/ gets `_lem` after it. Names that
-the check makes of the code (goals, steps, invariants) and names of the library keep their spelling, and so does the code.
+the check makes of the code (goals, steps, invariants) and names of the library keep their spelling, and so do the code's own
+names; where code cites a name of ours, in a clause or in a comment, it is respelled there too.
 """
 import collections
 import glob

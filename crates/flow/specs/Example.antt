@@ -1,5 +1,5 @@
 -- A network with three ranks, on which the definitions compute.
-use Rattle.std.specs.Prelude.{◌≡◌, ℕ, Bool, true, false, List, [], ◌∷◌, get_or, Some, None, slice_index_or}
+use Rattle.std.specs.Prelude.{◌≡◌, ℕ, Bool, true, false, List, [], ◌∷◌, Some, None, slice_index_or}
 use Rattle.flow.specs.Network.{Arc, Network, granted}
 use Rattle.flow.specs.Theory.{First}
 use Rattle.flow.specs.Checker.{Most}
@@ -29,7 +29,7 @@ members bs v = slice_index_or bs v false
 -- a narrowest cut for each k up to 3: all nodes, all but those of rank 0, the nodes 0, 1 and 8, and the source
 abbrev pub cuts : ℕ → ℕ → Bool
 cuts k =
-    get_or
+    slice_index_or
     (members (true ∷ true ∷ true ∷ true ∷ true ∷ true ∷ true ∷ true ∷ true ∷ true ∷ [])
     ∷ members (true ∷ true ∷ true ∷ true ∷ true ∷ false ∷ true ∷ true ∷ true ∷ false ∷ [])
     ∷ members (true ∷ true ∷ false ∷ false ∷ false ∷ false ∷ false ∷ false ∷ true ∷ false ∷ [])

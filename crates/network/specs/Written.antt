@@ -1,5 +1,5 @@
 -- Lists that keep to the limits make a proper network. (A proof that a ghost member holds stands in specs/.)
-use Rattle.std.specs.Prelude.{◌≡◌, ℕ, zero, suc, ◌<◌, Bool, true, List, [], ◌∷◌, length, get_or, None, Option, slice_index_or}
+use Rattle.std.specs.Prelude.{◌≡◌, ℕ, zero, suc, ◌<◌, Bool, true, List, [], ◌∷◌, length, None, Option, slice_index_or}
 use Rattle.std.proofs.Common.{arith}
 use Rattle.std.proofs.ByRecursion.{All-from_get_or}
 use Rattle.std.proofs.lemmas.List.{get_or_past}
@@ -16,7 +16,7 @@ each_at p (x ∷ xs) e (suc i) d l = each_at p xs (and_parts (p x) (each p xs) e
 
 arcs_proper : (n : ℕ) (es : List Arc) → each (joins n) es ≡ true → each fits es ≡ true → ArcsProper n es
 arcs_proper n es ends caps e l =
-    let a = get_or es e no_arc in
+    let a = slice_index_or es e no_arc in
     let both = and_parts _ _ (each_at (joins n) es ends e no_arc l) in
     (ltb-true _ _ both.0, ltb-true _ _ both.1, leb-true _ _ (each_at fits es caps e no_arc l))
 
