@@ -1,0 +1,4 @@
+pub mod Reading
+pub mod Text
+pub mod Counting
+pub mod Taken
