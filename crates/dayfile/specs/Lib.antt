@@ -3,3 +3,4 @@ pub mod Marks
 pub mod Names
 pub mod Reading
 pub mod Records
+pub mod Texts

@@ -1,6 +1,7 @@
 -- The marks of records, by their two letters.
-use Rattle.std.specs.Prelude.{ℕ, cond, ◌&&◌, List, [], ◌∷◌, Some, None, codes, Option, ◌==◌, slice_index}
+use Rattle.std.specs.Prelude.{◌≡◌, ℕ, if◌then◌else◌, ◌&&◌, List, [], ◌∷◌, Some, None, Ok, Err, codes, Option, Result, ◌==◌, slice_index}
 use Rattle.dayfile.specs.declared.mark.Mark.{Mark}
+use Rattle.dayfile.specs.declared.mark.NoMark.{NoMark}
 use Rattle.dayfile.specs.declared.mark.Mark.TheVariants.{Hz, Yn, Ln, Dp, Sd, Hd, Bk, Rl, Qt, Rs}
 
 -- the letters of each mark
@@ -19,7 +20,12 @@ letters Rs = codes "RS"
 -- the first of the marks that has these letters
 abbrev pub mark_in : List Mark → ℕ → ℕ → Option Mark
 mark_in [] a b = None
-mark_in (m ∷ ms) a b = cond (a == slice_index (letters m) 0 && b == slice_index (letters m) 1) (Some m) (mark_in ms a b)
+mark_in (m ∷ ms) a b = if a == slice_index (letters m) 0 && b == slice_index (letters m) 1 then Some m else mark_in ms a b
 
 abbrev pub mark_of : ℕ → ℕ → Option Mark
 mark_of a b = mark_in (Hz ∷ Yn ∷ Ln ∷ Dp ∷ Sd ∷ Hd ∷ Bk ∷ Rl ∷ Qt ∷ Rs ∷ []) a b
+
+-- two letters are read as their mark, or refused where no mark has them
+abbrev pub ReadsMark : List ℕ → Result Mark NoMark → Type 0
+ReadsMark s (Ok m) = mark_of (slice_index s 0) (slice_index s 1) ≡ Some m
+ReadsMark s (Err e) = (mark_of (slice_index s 0) (slice_index s 1) ≡ None) × (e.0 ≡ s)

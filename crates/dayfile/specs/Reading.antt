@@ -1,5 +1,5 @@
 -- What stands at an offset of a file, what a reader does there, and the reading of a whole file.
-use Rattle.std.specs.Prelude.{◌≡◌, ℕ, ◌+◌, ◌≤◌, Bool, true, false, cond, List, [], ◌∷◌, length, drop, Some, None, Ok, Err, Option, Result, ◌==◌, nat_le, nat_lt}
+use Rattle.std.specs.Prelude.{◌≡◌, ℕ, ◌+◌, ◌≤◌, if◌then◌else◌, Bool, true, false, List, [], ◌∷◌, length, drop, Some, None, Ok, Err, Option, Result, IfOk, IfSome, ◌==◌, nat_le, nat_lt}
 use Rattle.dayfile.specs.declared.mark.Mark.{Mark}
 use Rattle.dayfile.specs.declared.record.Record.{Record}
 use Rattle.dayfile.specs.declared.fault.Position.{Position}
@@ -8,8 +8,6 @@ use Rattle.dayfile.specs.declared.fault.FileFault.TheVariants.{UnknownMark, CutS
 use Rattle.dayfile.specs.declared.fault.RecordFault.{RecordFault}
 use Rattle.dayfile.specs.declared.fault.RecordFault.TheVariants.{File, BadName}
 use Rattle.dayfile.specs.declared.reader.Reader.{Reader}
-use Rattle.dayfile.specs.declared.reader.next.Found.{Found}
-use Rattle.dayfile.specs.declared.reader.next.Found.TheVariants.{End, Whole, Bad}
 use Rattle.dayfile.specs.Faults.{place}
 use Rattle.dayfile.specs.Marks.{mark_of}
 use Rattle.dayfile.specs.Records.{Rec, view, byte, size, record_of, well_named}
@@ -24,13 +22,14 @@ pub data Step : Type 0 where
 abbrev pub marked : Option Mark → Position → List ℕ → Step
 marked None at bs = bad (UnknownMark at)
 marked (Some m) at bs =
-    cond (nat_le (size m bs) (length bs)) (got (record_of m (at.offset + 2) bs) (at.offset + 2 + size m bs)) (bad (CutShort at))
+    if nat_le (size m bs) (length bs) then got (record_of m (at.offset + 2) bs) (at.offset + 2 + size m bs) else bad (CutShort at)
 
 -- the bytes bs from a place on; one byte alone is a record cut short
 abbrev pub beginning : Position → List ℕ → Step
 beginning at bs =
-    cond (length bs == 0) end
-    (cond (length bs == 1) (bad (CutShort at)) (marked (mark_of (byte bs 0) (byte bs 1)) at (drop 2 bs)))
+    if length bs == 0 then end
+    else if length bs == 1 then bad (CutShort at)
+    else marked (mark_of (byte bs 0) (byte bs 1)) at (drop 2 bs)
 
 -- a day file has at most 32,768 bytes
 abbrev pub is_too_long : List ℕ → Bool
@@ -38,7 +37,7 @@ is_too_long file = nat_lt 32768 (length file)
 
 -- what stands at a place of a file; a file that is too long is a fault as a whole
 abbrev pub stands : List ℕ → Position → Step
-stands file at = cond (is_too_long file) (bad TooLong) (beginning at (drop at.offset file))
+stands file at = if is_too_long file then bad TooLong else beginning at (drop at.offset file)
 
 -- The reading of a file from offset p on, where the n-th record would begin: the records there, and the fault that ends
 -- them, if one does.
@@ -85,18 +84,12 @@ here s = stands s.file.now (place_of s)
 abbrev pub Next : Reader → Result (Option Record) RecordFault → Reader → Type 0
 Next s r t = Follows (here s) s r t
 
--- Inside one call: what the bytes were seen to begin with, and that a record has two bytes at least.
-abbrev pub seen : Found → Step
-seen End = end
-seen (Whole r p) = got (view r) p
-seen (Bad f) = bad f
+-- Inside one call: what was seen of the bytes from the reader's offset on.
+abbrev pub seen : Result (Option (Record × ℕ)) FileFault → Step
+seen (Ok None) = end
+seen (Ok (Some x)) = got (view x.0) x.1
+seen (Err f) = bad f
 
-abbrev pub Moves : ℕ → ℕ → Found → Type 0
-Moves p n End = Unit {0}
-Moves p n (Whole r q) = (p + 2 ≤ q) × (q ≤ p + n)
-Moves p n (Bad f) = Unit {0}
-
-abbrev pub Shows : Reader → Result (Option (Record × ℕ)) FileFault → Type 0
-Shows s (Ok None) = here s ≡ end
-Shows s (Ok (Some x)) = (here s ≡ got (view x.0) x.1) × (s.offset + 2 ≤ x.1) × (x.1 ≤ length s.file.now)
-Shows s (Err f) = here s ≡ bad f
+-- a record that is seen from offset p on has two bytes at least, and ends by offset q
+abbrev pub Within : ℕ → ℕ → Result (Option (Record × ℕ)) FileFault → Type 0
+Within p q r = IfOk r (λ o. IfSome o (λ x. (p + 2 ≤ x.1) × (x.1 ≤ q)))

@@ -4,6 +4,7 @@ use Rattle.dayfile.specs.declared.mark.Mark.{Mark}
 use Rattle.dayfile.specs.declared.mark.Mark.TheVariants.{Hz, Yn, Ln, Dp, Sd, Hd, Bk, Rl, Qt, Rs}
 use Rattle.dayfile.specs.declared.record.Record.{Record}
 use Rattle.dayfile.specs.declared.record.Record.TheVariants as code
+use Rattle.dayfile.specs.declared.record.Fields.{Fields}
 use Rattle.dayfile.specs.Names.{is_name}
 
 -- A record: the numbers in its fields, and a name as its bytes with the offset in the file at which they begin.
@@ -64,6 +65,12 @@ record_of Bk p bs = book (word bs 0)
 record_of Rl p bs = release (word bs 0)
 record_of Qt p bs = quote (byte bs 0)
 record_of Rs p bs = run_sheet
+
+-- n bytes more of the fields were taken
+pub record Took (n : ℕ) (s t : Fields) : Type 0 where
+  pub within : s.taken + n ≤ length s.bytes.now
+  pub bytes : t.bytes.now ≡ s.bytes.now
+  pub taken : t.taken ≡ s.taken + n
 
 -- what the fields of a mark give: nothing where they are cut short, else the record and the number of their bytes
 abbrev pub Fielded : Mark → ℕ → List ℕ → Option (Record × ℕ) → Type 0

@@ -1,10 +1,14 @@
 // What can be wrong with a day file, in layers. A fault of a layer holds the fault of the layer below it whole.
-ghost use Rattle.std.specs.Prelude.{◌≡◌};
+ghost use Rattle.std.specs.Prelude.{◌≡◌, Some};
 ghost use Rattle.dayfile.specs.declared.fault.RecordFault.TheVariants.{File};
 ghost use Rattle.dayfile.specs.Faults.{file_number, file_position, record_layer, record_number, record_position};
+ghost use Rattle.dayfile.specs.Texts.{fault_text};
+
+use std::error::Error;
+use std::fmt;
 
 // A layer at which a fault is met: the bytes of the file, or a record by itself.
-#[derive(Clone, Copy)]
+#[derive(Clone, Copy, Debug, PartialEq, Eq)]
 pub enum Layer {
     File,
     Record,
@@ -12,14 +16,14 @@ pub enum Layer {
 
 // Where a fault is met: the number of the record, from 1, and the offset at which the record begins.
 // Both are 0 for a fault of the whole file.
-#[derive(Clone, Copy)]
+#[derive(Clone, Copy, Debug, PartialEq, Eq)]
 pub struct Position {
     pub nth: usize,
     pub offset: usize,
 }
 
 // What can be wrong with the bytes: they begin with no mark, they end within a record, there are too many of them.
-#[derive(Clone, Copy)]
+#[derive(Clone, Copy, Debug, PartialEq, Eq)]
 pub enum FileFault {
     UnknownMark(Position),
     CutShort(Position),
@@ -27,14 +31,14 @@ pub enum FileFault {
 }
 
 // What can be wrong with a record: its bytes, or the name in it.
-#[derive(Clone, Copy)]
+#[derive(Clone, Copy, Debug, PartialEq, Eq)]
 pub enum RecordFault {
     File(FileFault),
     BadName(Position),
 }
 
 impl FileFault {
-    // The fault's number.
+    // The fault's number. (By name: `u8::from(fault)` would not say what the number is.)
     pub fn number(self) -> u8
         ensures { result ≡ file_number self }
     {
@@ -50,15 +54,14 @@ impl FileFault {
         ensures { result ≡ file_position self }
     {
         match self {
-            FileFault::UnknownMark(position) => position,
-            FileFault::CutShort(position) => position,
+            FileFault::UnknownMark(position) | FileFault::CutShort(position) => position,
             FileFault::TooLong => Position { nth: 0, offset: 0 },
         }
     }
 }
 
 impl RecordFault {
-    // The fault's number.
+    // The fault's number. (By name, as that of a fault of the file.)
     pub fn number(self) -> u8
         ensures { result ≡ record_number self }
     {
@@ -96,3 +99,17 @@ impl From<FileFault> for RecordFault {
         RecordFault::File(fault)
     }
 }
+
+// A fault as its number, and the offset at which it was met.
+impl fmt::Display for RecordFault {
+    ghost output = { λ f. Some (fault_text (record_number f) (record_position f)) };
+
+    fn fmt<W: fmt::Write>(&self, f: &mut fmt::Formatter<W>) -> fmt::Result {
+        let number = self.number();
+        let offset = self.position().offset;
+        write!(f, "?? no {number} at {offset}")
+    }
+}
+
+// So callers can pass it on by `?` as any error of std.
+impl Error for RecordFault {}

@@ -1,8 +1,7 @@
 // Marks: the two letters that each record begins with.
-ghost use Rattle.std.specs.Prelude.{◌≡◌};
-ghost use Rattle.dayfile.specs.Marks.{mark_of};
+ghost use Rattle.dayfile.specs.Marks.{ReadsMark};
 
-#[derive(Clone, Copy)]
+#[derive(Clone, Copy, Debug, PartialEq, Eq)]
 pub enum Mark {
     Hz,
     Yn,
@@ -16,23 +15,29 @@ pub enum Mark {
     Rs,
 }
 
-impl Mark {
-    // The mark with these letters, if there is one.
-    pub fn of(first: u8, second: u8) -> Option<Mark>
-        ensures { result ≡ mark_of first second }
-    {
-        match (first, second) {
-            (b'H', b'Z') => Some(Mark::Hz),
-            (b'Y', b'N') => Some(Mark::Yn),
-            (b'L', b'N') => Some(Mark::Ln),
-            (b'D', b'P') => Some(Mark::Dp),
-            (b'S', b'D') => Some(Mark::Sd),
-            (b'H', b'D') => Some(Mark::Hd),
-            (b'B', b'K') => Some(Mark::Bk),
-            (b'R', b'L') => Some(Mark::Rl),
-            (b'Q', b'T') => Some(Mark::Qt),
-            (b'R', b'S') => Some(Mark::Rs),
-            _ => None,
+// Two bytes that are the letters of no mark.
+#[derive(Clone, Copy, Debug, PartialEq, Eq)]
+pub struct NoMark(pub [u8; 2]);
+
+// The mark with these letters, if there is one.
+impl TryFrom<[u8; 2]> for Mark {
+    type Error = NoMark;
+
+    ghost try_from_gives = { ReadsMark };
+
+    fn try_from(letters: [u8; 2]) -> Result<Mark, NoMark> {
+        match &letters {
+            b"HZ" => Ok(Mark::Hz),
+            b"YN" => Ok(Mark::Yn),
+            b"LN" => Ok(Mark::Ln),
+            b"DP" => Ok(Mark::Dp),
+            b"SD" => Ok(Mark::Sd),
+            b"HD" => Ok(Mark::Hd),
+            b"BK" => Ok(Mark::Bk),
+            b"RL" => Ok(Mark::Rl),
+            b"QT" => Ok(Mark::Qt),
+            b"RS" => Ok(Mark::Rs),
+            _ => Err(NoMark(letters)),
         }
     }
 }

@@ -1,11 +1,15 @@
 // The records of a day file, and how each is made of the bytes after its mark.
-ghost use Rattle.std.specs.Prelude.{◌+◌, ◌^◌, ◌<◌, length};
-ghost use Rattle.dayfile.specs.declared.mark.Mark.TheVariants.{Hz, Yn, Ln, Dp, Sd, Hd, Bk, Rl, Qt};
-ghost use Rattle.dayfile.specs.Records.{Fielded};
+ghost use Rattle.std.specs.Prelude.{◌≡◌, ◌+◌, ◌^◌, ◌<◌, length, take, drop, Some, MatchOption};
+ghost use Rattle.std.specs.Option.{option_map};
+ghost use Rattle.dayfile.specs.declared.mark.Mark.TheVariants.{Yn};
+ghost use Rattle.dayfile.specs.Records.{Fielded, Took, byte, view, word};
+ghost use Rattle.dayfile.specs.Texts.{record_text};
 
 use crate::mark::Mark;
+use crate::name::text_of;
+use std::fmt;
 
-#[derive(Clone, Copy)]
+#[derive(Clone, Copy, Debug, PartialEq, Eq)]
 pub enum Record<'a> {
     // HZ: open the board with this horizon and origin.
     Open {
@@ -56,133 +60,136 @@ pub enum Record<'a> {
     RunSheet,
 }
 
-// The record that a mark and the bytes `s` after it, at offset `at`, begin with, and how many of these bytes are its fields.
-pub(crate) fn of_fields<'a>(mark: Mark, at: usize, s: &'a [u8]) -> Option<(Record<'a>, usize)>
-    requires { at + length s.now < 2 ^ 64 }
-    ensures { Fielded mark at s.now result }
-{
-    match mark {
-        Mark::Hz => open(s),
-        Mark::Yn => yard_name(at, s),
-        Mark::Ln => lane(s),
-        Mark::Dp => depot(s),
-        Mark::Sd => departure(s),
-        Mark::Hd => hold(s),
-        Mark::Bk => book(s),
-        Mark::Rl => release(s),
-        Mark::Qt => quote(s),
-        Mark::Rs => Some((Record::RunSheet, 0)),
+// A record as its mark and its fields. A name that is no text is shown as a question mark.
+impl fmt::Display for Record<'_> {
+    ghost output = { λ x. Some (record_text (view x)) };
+
+    fn fmt<W: fmt::Write>(&self, f: &mut fmt::Formatter<W>) -> fmt::Result {
+        match *self {
+            Record::Open { horizon, origin } => write!(f, "HZ {horizon} {origin}"),
+            Record::YardName { yard, name, .. } => {
+                let text = text_of(name).unwrap_or("?");
+                write!(f, "YN {yard} {text}")
+            }
+            Record::Lane {
+                from,
+                to,
+                transit,
+                capacity,
+            } => write!(f, "LN {from} {to} {transit} {capacity}"),
+            Record::Depot { yard } => write!(f, "DP {yard}"),
+            Record::Departure {
+                lane,
+                period,
+                capacity,
+            } => write!(f, "SD {lane} {period} {capacity}"),
+            Record::Hold { yard, pallets } => write!(f, "HD {yard} {pallets}"),
+            Record::Book { slip } => write!(f, "BK {slip}"),
+            Record::Release { slip } => write!(f, "RL {slip}"),
+            Record::Quote { ranking } => write!(f, "QT {ranking}"),
+            Record::RunSheet => write!(f, "RS"),
+        }
     }
 }
 
-fn open<'a>(s: &'a [u8]) -> Option<(Record<'a>, usize)>
-    ensures { Fielded Hz 0 s.now result }
-{
-    let [horizon, origin, ..] = s else {
-        return None;
-    };
-    let record = Record::Open {
-        horizon: *horizon,
-        origin: *origin,
-    };
-    Some((record, 2))
+// The bytes after a mark, of which the first `taken` were read.
+#[derive(Drop)]
+struct Fields<'a> {
+    bytes: &'a [u8],
+    taken: usize,
 }
 
-fn yard_name<'a>(at: usize, s: &'a [u8]) -> Option<(Record<'a>, usize)>
-    requires { at + length s.now < 2 ^ 64 }
-    ensures { Fielded Yn at s.now result }
-{
-    let [yard, len, ..] = s else {
-        return None;
-    };
-    let end = 2 + usize::from(*len);
-    if s.len() < end {
-        return None;
+impl<'a> Fields<'a> {
+    // The next byte.
+    fn byte(&mut self) -> Option<u8>
+        ensures { MatchOption result
+            (length self.old.bytes.now < self.old.taken + 1)
+            (λ b. (b ≡ byte self.old.bytes.now self.old.taken) × Took 1 self.old self.new) }
+    {
+        let byte = *self.bytes.get(self.taken)?;
+        self.taken += 1;
+        Some(byte)
     }
-    let record = Record::YardName {
-        yard: *yard,
-        offset: at + 2,
-        name: &s[2..end],
-    };
-    Some((record, end))
+
+    // The next two bytes as a number, the more significant first.
+    fn word(&mut self) -> Option<u16>
+        ensures { MatchOption result
+            (length self.old.bytes.now < self.old.taken + 2)
+            (λ w. (w ≡ word self.old.bytes.now self.old.taken) × Took 2 self.old self.new) }
+    {
+        Some(u16::from_be_bytes([self.byte()?, self.byte()?]))
+    }
+
+    // The next bytes, as many as asked.
+    fn part(&mut self, len: usize) -> Option<&'a [u8]>
+        ensures { MatchOption result
+            (length self.old.bytes.now < self.old.taken + len)
+            (λ s. (s.now ≡ take len (drop self.old.taken self.old.bytes.now)) × Took len self.old self.new) }
+    {
+        let part = self.bytes.get(self.taken..)?.get(..len)?;
+        self.taken += len;
+        Some(part)
+    }
+
+    // The record of the mark YN, whose first field stands at offset `at` of the file.
+    fn yard_name(&mut self, at: usize) -> Option<Record<'a>>
+        requires start { self.old.taken ≡ 0 }
+        requires fits { at + length self.old.bytes.now < 2 ^ 64 }
+        ensures { Fielded Yn at self.old.bytes.now (option_map (λ x. (x, self.new.taken)) result) }
+    {
+        let yard = self.byte()?;
+        let len = usize::from(self.byte()?);
+        Some(Record::YardName {
+            yard,
+            offset: at + self.taken,
+            name: self.part(len)?,
+        })
+    }
+
+    // The record of a mark, whose first field stands at offset `at` of the file.
+    fn record(&mut self, mark: Mark, at: usize) -> Option<Record<'a>>
+        requires start { self.old.taken ≡ 0 }
+        requires fits { at + length self.old.bytes.now < 2 ^ 64 }
+        ensures { Fielded mark at self.old.bytes.now (option_map (λ x. (x, self.new.taken)) result) }
+    {
+        match mark {
+            Mark::Hz => Some(Record::Open {
+                horizon: self.byte()?,
+                origin: self.byte()?,
+            }),
+            Mark::Yn => self.yard_name(at),
+            Mark::Ln => Some(Record::Lane {
+                from: self.byte()?,
+                to: self.byte()?,
+                transit: self.byte()?,
+                capacity: self.word()?,
+            }),
+            Mark::Dp => Some(Record::Depot { yard: self.byte()? }),
+            Mark::Sd => Some(Record::Departure {
+                lane: self.byte()?,
+                period: self.byte()?,
+                capacity: self.word()?,
+            }),
+            Mark::Hd => Some(Record::Hold {
+                yard: self.byte()?,
+                pallets: self.word()?,
+            }),
+            Mark::Bk => Some(Record::Book { slip: self.word()? }),
+            Mark::Rl => Some(Record::Release { slip: self.word()? }),
+            Mark::Qt => Some(Record::Quote {
+                ranking: self.byte()?,
+            }),
+            Mark::Rs => Some(Record::RunSheet),
+        }
+    }
 }
 
-fn lane<'a>(s: &'a [u8]) -> Option<(Record<'a>, usize)>
-    ensures { Fielded Ln 0 s.now result }
+// The record that a mark and the bytes after it, at offset `at`, begin with, and how many of these bytes are its fields.
+pub(crate) fn of_fields<'a>(mark: Mark, at: usize, bytes: &'a [u8]) -> Option<(Record<'a>, usize)>
+    requires { at + length bytes.now < 2 ^ 64 }
+    ensures { Fielded mark at bytes.now result }
 {
-    let [from, to, transit, high, low, ..] = s else {
-        return None;
-    };
-    let record = Record::Lane {
-        from: *from,
-        to: *to,
-        transit: *transit,
-        capacity: u16::from_be_bytes([*high, *low]),
-    };
-    Some((record, 5))
-}
-
-fn depot<'a>(s: &'a [u8]) -> Option<(Record<'a>, usize)>
-    ensures { Fielded Dp 0 s.now result }
-{
-    let [yard, ..] = s else {
-        return None;
-    };
-    Some((Record::Depot { yard: *yard }, 1))
-}
-
-fn departure<'a>(s: &'a [u8]) -> Option<(Record<'a>, usize)>
-    ensures { Fielded Sd 0 s.now result }
-{
-    let [lane, period, high, low, ..] = s else {
-        return None;
-    };
-    let record = Record::Departure {
-        lane: *lane,
-        period: *period,
-        capacity: u16::from_be_bytes([*high, *low]),
-    };
-    Some((record, 4))
-}
-
-fn hold<'a>(s: &'a [u8]) -> Option<(Record<'a>, usize)>
-    ensures { Fielded Hd 0 s.now result }
-{
-    let [yard, high, low, ..] = s else {
-        return None;
-    };
-    let record = Record::Hold {
-        yard: *yard,
-        pallets: u16::from_be_bytes([*high, *low]),
-    };
-    Some((record, 3))
-}
-
-fn book<'a>(s: &'a [u8]) -> Option<(Record<'a>, usize)>
-    ensures { Fielded Bk 0 s.now result }
-{
-    let [high, low, ..] = s else {
-        return None;
-    };
-    let slip = u16::from_be_bytes([*high, *low]);
-    Some((Record::Book { slip }, 2))
-}
-
-fn release<'a>(s: &'a [u8]) -> Option<(Record<'a>, usize)>
-    ensures { Fielded Rl 0 s.now result }
-{
-    let [high, low, ..] = s else {
-        return None;
-    };
-    let slip = u16::from_be_bytes([*high, *low]);
-    Some((Record::Release { slip }, 2))
-}
-
-fn quote<'a>(s: &'a [u8]) -> Option<(Record<'a>, usize)>
-    ensures { Fielded Qt 0 s.now result }
-{
-    let [ranking, ..] = s else {
-        return None;
-    };
-    Some((Record::Quote { ranking: *ranking }, 1))
+    let mut fields = Fields { bytes, taken: 0 };
+    let record = fields.record(mark, at)?;
+    Some((record, fields.taken))
 }

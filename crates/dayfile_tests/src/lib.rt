@@ -3,12 +3,13 @@
 
 #[cfg(test)]
 mod tests {
-    use dayfile::fault::{FileFault, Layer, RecordFault};
-    use dayfile::mark::Mark;
+    use dayfile::fault::{FileFault, Layer, Position, RecordFault};
+    use dayfile::mark::{Mark, NoMark};
     use dayfile::name::{is_name, is_text};
     use dayfile::reader::Reader;
     use dayfile::record::Record;
     use lines::listing::listing;
+    use lines::text::record_line;
     use std::alloc::Global;
     use std::process::Abort;
     use std::test::*;
@@ -150,7 +151,7 @@ mod tests {
     fn check_table(rt: &impl Abort, alloc: Global, cases: &[Case]) -> Result<(), Fail> {
         for case in cases {
             let text = listing(alloc, case.file)?;
-            assert!(rt; text.as_str() == case.text, "{}", case.text);
+            assert_eq!(rt; text.as_str(), case.text);
         }
         Ok(())
     }
@@ -171,24 +172,17 @@ mod tests {
         for case in &RECORDS {
             for cut in 1..case.file.len() {
                 let text = listing(rt.alloc(), &case.file[0..cut])?;
-                assert!(rt; text.as_str() == "1 ?? no 8 at 0\n", "{}", case.text);
+                assert_eq!(rt; text.as_str(), "1 ?? no 8 at 0\n", "{}", case.text);
             }
         }
         Ok(())
     }
 
-    // The next record of a file that has no fault there.
-    fn read<'a>(reader: &mut Reader<'a>) -> Result<Option<Record<'a>>, Fail> {
-        match reader.next() {
-            Ok(found) => Ok(found),
-            Err(_) => Err(Fail::new("a fault")),
-        }
-    }
-
-    // The first fault of a file, and how many records come before it.
+    // The first fault of a file, and how many records come before it. Each record takes a byte at least, so the calls
+    // are bounded by the file's length.
     fn first_fault(file: &[u8]) -> (usize, Option<RecordFault>) {
         let mut reader = Reader::new(file);
-        for count in 0..file.len() + 1 {
+        for count in 0..=file.len() {
             match reader.next() {
                 Ok(Some(_)) => {}
                 Ok(None) => return (count, None),
@@ -200,36 +194,30 @@ mod tests {
 
     #[test]
     fn longest_file_is_read(rt: HostRuntime) -> Result<(), Fail> {
-        let mut file = Vec::new(rt.alloc());
-        for _ in 0..16384 {
-            file.extend_from_slice(b"RS")?;
-        }
+        let mut file = b"RS".repeat(rt.alloc(), 16384)?;
         assert_eq!(rt; file.len(), 32768);
-        let (count, fault) = first_fault(file.as_slice());
-        assert_eq!(rt; count, 16384);
-        assert!(rt; fault.is_none());
+        assert_eq!(rt; first_fault(file.as_slice()), (16384, None));
         let _ = file.pop();
-        let (count, fault) = first_fault(file.as_slice());
-        assert_eq!(rt; count, 16383);
-        let fault = fault.ok_or("no fault")?;
+        let place = Position {
+            nth: 16384,
+            offset: 32766,
+        };
+        let fault = RecordFault::File(FileFault::CutShort(place));
+        assert_eq!(rt; first_fault(file.as_slice()), (16383, Some(fault)));
         assert_eq!(rt; fault.number(), 8);
-        assert_eq!(rt; fault.position().nth, 16384);
-        assert_eq!(rt; fault.position().offset, 32766);
+        assert_eq!(rt; fault.position(), place);
         Ok(())
     }
 
     #[test]
     fn one_byte_more_is_ten(rt: HostRuntime) -> Result<(), Fail> {
         let file = vec![in rt.alloc(); b'R'; 32769]?;
-        let (count, fault) = first_fault(file.as_slice());
-        assert_eq!(rt; count, 0);
-        let fault = fault.ok_or("no fault")?;
+        let fault = RecordFault::File(FileFault::TooLong);
+        assert_eq!(rt; first_fault(file.as_slice()), (0, Some(fault)));
         assert_eq!(rt; fault.number(), 10);
-        assert_eq!(rt; fault.position().nth, 0);
-        assert_eq!(rt; fault.position().offset, 0);
-        assert!(rt; matches!(fault, RecordFault::File(FileFault::TooLong)));
+        assert_eq!(rt; fault.position(), Position { nth: 0, offset: 0 });
         let text = listing(rt.alloc(), file.as_slice())?;
-        assert!(rt; text.as_str() == "0 ?? no 10 at 0\n");
+        assert_eq!(rt; text.as_str(), "0 ?? no 10 at 0\n");
         Ok(())
     }
 
@@ -237,15 +225,12 @@ mod tests {
     #[test]
     fn stays_at_a_fault(rt: HostRuntime) -> Result<(), Fail> {
         let mut reader = Reader::new(b"RSYN\x04\x00RS");
-        let _ = read(&mut reader)?;
+        let _ = reader.next()?;
         for _ in 0..2 {
-            let Err(fault) = reader.next() else {
-                return Err(Fail::new("a name of no bytes was read"));
-            };
+            let fault = reader.next().err().ok_or("a name of no bytes was read")?;
             assert_eq!(rt; fault.number(), 9);
-            assert!(rt; matches!(fault.layer(), Layer::Record));
-            assert_eq!(rt; reader.position().nth, 2);
-            assert_eq!(rt; reader.position().offset, 2);
+            assert_eq!(rt; fault.layer(), Layer::Record);
+            assert_eq!(rt; reader.position(), Position { nth: 2, offset: 2 });
         }
         Ok(())
     }
@@ -253,19 +238,11 @@ mod tests {
     #[test]
     fn record_fault_holds_the_file_fault(rt: HostRuntime) -> Result<(), Fail> {
         let mut reader = Reader::new(b"RSQQ");
-        let _ = read(&mut reader)?;
-        let Err(fault) = reader.next() else {
-            return Err(Fail::new("an unknown mark was read"));
-        };
-        assert!(rt; matches!(fault.layer(), Layer::File));
-        let RecordFault::File(FileFault::UnknownMark(position)) = fault else {
-            return Err(Fail::new("another fault"));
-        };
-        assert_eq!(rt; position.nth, 2);
-        assert_eq!(rt; position.offset, 2);
-        let RecordFault::File(file_fault) = fault else {
-            return Err(Fail::new("another layer"));
-        };
+        let _ = reader.next()?;
+        let fault = reader.next().err().ok_or("an unknown mark was read")?;
+        assert_eq!(rt; fault.layer(), Layer::File);
+        let file_fault = FileFault::UnknownMark(Position { nth: 2, offset: 2 });
+        assert_eq!(rt; fault, RecordFault::File(file_fault));
         assert_eq!(rt; file_fault.number(), 7);
         assert_eq!(rt; file_fault.position().offset, 2);
         Ok(())
@@ -274,14 +251,27 @@ mod tests {
     #[test]
     fn name_is_a_part_of_the_file(rt: HostRuntime) -> Result<(), Fail> {
         let mut reader = Reader::new(b"RSYN\x03\x02abRS");
-        let _ = read(&mut reader)?;
-        let Some(Record::YardName { yard, offset, name }) = read(&mut reader)? else {
-            return Err(Fail::new("no name"));
+        let _ = reader.next()?;
+        let name = Record::YardName {
+            yard: 3,
+            offset: 6,
+            name: b"ab",
         };
-        assert_eq!(rt; yard, 3);
-        assert_eq!(rt; offset, 6);
-        assert!(rt; name == b"ab".as_slice());
+        assert_eq!(rt; reader.next()?, Some(name));
         assert_eq!(rt; reader.position().offset, 8);
+        Ok(())
+    }
+
+    // A record whose name was never checked is shown too.
+    #[test]
+    fn shows_a_name_that_is_no_text(rt: HostRuntime) -> Result<(), Fail> {
+        let name = Record::YardName {
+            yard: 3,
+            offset: 6,
+            name: b"a\xff",
+        };
+        let text = record_line(rt.alloc(), 7, name)?;
+        assert_eq!(rt; text.as_str(), "7 YN 3 ?");
         Ok(())
     }
 
@@ -301,10 +291,10 @@ mod tests {
 
     #[test]
     fn marks_by_their_letters(rt: HostRuntime) -> Result<(), Fail> {
-        assert!(rt; matches!(Mark::of(b'Q', b'T'), Some(Mark::Qt)));
-        assert!(rt; matches!(Mark::of(b'R', b'L'), Some(Mark::Rl)));
-        assert!(rt; Mark::of(b'T', b'Q').is_none());
-        assert!(rt; Mark::of(0, 0).is_none());
+        assert_eq!(rt; Mark::try_from(*b"QT"), Ok(Mark::Qt));
+        assert_eq!(rt; Mark::try_from(*b"RL"), Ok(Mark::Rl));
+        assert_eq!(rt; Mark::try_from(*b"TQ"), Err(NoMark(*b"TQ")));
+        assert_eq!(rt; Mark::try_from([0, 0]), Err(NoMark([0, 0])));
         Ok(())
     }
 }

@@ -8,7 +8,7 @@ ghost use Rattle.flow.specs.Pushing.{Augments, Bounded, NothingFlows, PushCarrie
 ghost use Rattle.flow.specs.Theory.{AllGreatest, BestExists, Certificate, FirstGreatest, FirstUnique, GreatestBottleneck, Lexicographic, Nested, OneBottleneck, SmallestCut, WeakDuality};
 
 // An arc leads from its tail to its head, and carries at most its capacity. The theory is about lists of these.
-#[derive(Clone, Copy, Drop)]
+#[derive(Clone, Copy, Default, Drop)]
 pub struct Arc {
     pub tail: u16,
     pub head: u16,

@@ -10,8 +10,8 @@ use Rattle.dayfile.specs.Reading.{Step, end, got, bad, stands, here, Follows, Ne
 use Rattle.lines.specs.Lines.{record_line, fault_line}
 use Rattle.lines.specs.Listing.{Lists, lines_of, ended}
 
-abbrev pub fault_line_lem : RecordFault → List ℕ
-fault_line_lem f = fault_line (record_number f) (record_position f)
+abbrev pub line_of_fault : RecordFault → List ℕ
+line_of_fault f = fault_line (record_number f) (record_position f)
 
 -- Whatever the rest of the file reads as, its lines after those that are out already list the whole file.
 pub record Sofar (file : List ℕ) (s : Reader) (out : List ℕ) : Type 0 where
@@ -39,25 +39,25 @@ module _ (file : List ℕ) (s t : Reader) (out : List ℕ) (so : Sofar file s ou
   done' : (k : Step) → here s ≡ k → Follows k s (Ok None) t → Lists file out
   done' end e h = subst (Lists file) (append-nil out) (so.rest [] None (ends (stands_at end e)))
   done' (got x q) e h = absurd h
-  done' (bad f) e h = let d = h.0 in let z : ◌≡◌ {A = ℕ} 0 1 = cc in absurd (omega arith)
+  done' (bad f) e h = absurd (cc)
 
   pub done : Next s (Ok None) t → Lists file out
   done h = done' (here s) refl h
 
-  stopped' : (k : Step) → here s ≡ k → (f : RecordFault) → Follows k s (Err f) t → Lists file (out ++ ended (fault_line_lem f))
-  stopped' end e f h = let d = h.0 in let z : ◌≡◌ {A = ℕ} 0 1 = cc in absurd (omega arith)
+  stopped' : (k : Step) → here s ≡ k → (f : RecordFault) → Follows k s (Err f) t → Lists file (out ++ ended (line_of_fault f))
+  stopped' end e f h = absurd (cc)
   stopped' (got x q) e f h =
-      subst (λ g. Lists file (out ++ ended (fault_line_lem g))) (sym h.1) (so.rest [] (Some (BadName (place (s.count + 1) s.offset))) (misnamed x q (stands_at (got x q) e) h.0))
+      subst (λ g. Lists file (out ++ ended (line_of_fault g))) (sym h.1) (so.rest [] (Some (BadName (place (s.count + 1) s.offset))) (misnamed x q (stands_at (got x q) e) h.0))
   stopped' (bad g) e f h =
       let d = h.0 in
       let same : f ≡ File g = cc in
-      subst (λ r. Lists file (out ++ ended (fault_line_lem r))) (sym same) (so.rest [] (Some (File g)) (faulty g (stands_at (bad g) e)))
+      subst (λ r. Lists file (out ++ ended (line_of_fault r))) (sym same) (so.rest [] (Some (File g)) (faulty g (stands_at (bad g) e)))
 
-  pub stopped : (f : RecordFault) → Next s (Err f) t → Lists file (out ++ ended (fault_line_lem f))
+  pub stopped : (f : RecordFault) → Next s (Err f) t → Lists file (out ++ ended (line_of_fault f))
   stopped f h = stopped' (here s) refl f h
 
   more' : (k : Step) → here s ≡ k → (y : Record) → Follows k s (Ok (Some y)) t → Sofar file t (out ++ ended (record_line (s.count + 1) (view y)))
-  more' end e y h = let d = h.0 in let z : ◌≡◌ {A = ℕ} 0 1 = cc in absurd (omega arith)
+  more' end e y h = absurd (cc)
   more' (got x q) e y h =
       let next : t.count + 1 ≡ s.count + 1 + 1 = omega (arith, h.2.count) in
       record {
@@ -69,15 +69,15 @@ module _ (file : List ℕ) (s t : Reader) (out : List ℕ) (so : Sofar file s ou
             let same = append_assoc out (line (view y)) (lines_of (t.count + 1) xs f) ∙ (λ i. out ++ (line (h.1 i) ++ lines_of (next i) xs f)) in
             subst (Lists file) (sym same) (so.rest (x ∷ xs) f (goes x q (stands_at (got x q) e) h.0 from));
       }
-  more' (bad f) e y h = let d = h.0 in let z : ◌≡◌ {A = ℕ} 0 1 = cc in absurd (omega arith)
+  more' (bad f) e y h = absurd (cc)
 
   pub more : (y : Record) → Next s (Ok (Some y)) t → Sofar file t (out ++ ended (record_line (s.count + 1) (view y)))
   more y h = more' (here s) refl y h
 
   counts : (k : Step) (y : Record) → Follows k s (Ok (Some y)) t → t.count ≡ s.count + 1
-  counts end y h = let d = h.0 in let z : ◌≡◌ {A = ℕ} 0 1 = cc in absurd (omega arith)
+  counts end y h = absurd (cc)
   counts (got x q) y h = h.2.count
-  counts (bad f) y h = let d = h.0 in let z : ◌≡◌ {A = ℕ} 0 1 = cc in absurd (omega arith)
+  counts (bad f) y h = absurd (cc)
 
   -- each record has two bytes at least, so there are fewer records than bytes
   pub falls : (y : Record) → Next s (Ok (Some y)) t → t.file.now ≡ file → length file - t.count < length file - s.count

@@ -1,5 +1,5 @@
 -- The listing of a whole day file.
-use Rattle.std.specs.Prelude.{◌≡◌, ℕ, ◌+◌, List, [], ◌∷◌, ◌++◌, Some, None, Ok, Err, string_bytes, Option, Result, String}
+use Rattle.std.specs.Prelude.{◌≡◌, ⊤, ℕ, ◌+◌, List, [], ◌∷◌, ◌++◌, Some, None, Ok, Err, string_bytes, Option, Result, String}
 use Rattle.dayfile.specs.declared.fault.RecordFault.{RecordFault}
 use Rattle.dayfile.specs.Faults.{record_number, record_position}
 use Rattle.dayfile.specs.Records.{Rec, view}
@@ -33,4 +33,4 @@ abbrev pub NextLine : Reader → Result (Option (String Global)) DayFault → Re
 NextLine s (Ok None) t = Next s (Ok None) t
 NextLine s (Ok (Some line)) t = (y : Entry) × Next s (Ok (Some y)) t × (string_bytes line ≡ record_line (s.count + 1) (view y))
 NextLine s (Err (Record f)) t = Next s (Err f) t
-NextLine s (Err Memory) t = Unit {0}
+NextLine s (Err (Memory e)) t = ⊤

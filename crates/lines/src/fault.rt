@@ -6,10 +6,10 @@ use dayfile::fault::RecordFault;
 use std::alloc::AllocError;
 
 // A record of the day file has a fault, or there is no memory left.
-#[derive(Clone, Copy)]
+#[derive(Clone, Copy, Debug, PartialEq, Eq)]
 pub enum DayFault {
     Record(RecordFault),
-    Memory,
+    Memory(AllocError),
 }
 
 impl From<RecordFault> for DayFault {
@@ -21,9 +21,9 @@ impl From<RecordFault> for DayFault {
 }
 
 impl From<AllocError> for DayFault {
-    ghost from_gives = { λ _ r. r ≡ Memory };
+    ghost from_gives = { λ e r. r ≡ Memory e };
 
-    fn from(_error: AllocError) -> DayFault {
-        DayFault::Memory
+    fn from(error: AllocError) -> DayFault {
+        DayFault::Memory(error)
     }
 }

@@ -12,8 +12,7 @@ fn push_line(out: &mut String, line: &str) -> Result<(), AllocError>
     ensures { OnOk result (string_bytes out.new ≡ ended (string_bytes out.old ++ line.now)) }
 {
     out.push_str(line)?;
-    out.push_str("\n")?;
-    Ok(())
+    out.push_str("\n")
 }
 
 // The line of the next record, or `None` at the end of the file.
@@ -24,8 +23,7 @@ fn next_line(heap: Global, reader: &mut Reader) -> Result<Option<String>, DayFau
     let Some(entry) = reader.next()? else {
         return Ok(None);
     };
-    let line = record_line(heap, nth, entry)?;
-    Ok(Some(line))
+    Ok(Some(record_line(heap, nth, entry)?))
 }
 
 // The listing of a file.
@@ -36,20 +34,13 @@ pub fn listing(heap: Global, file: &[u8]) -> Result<String, AllocError>
     let mut reader = Reader::new(file);
     'lines: loop {
         match next_line(heap, &mut reader) {
-            Ok(found) => {
-                let Some(line) = found else {
-                    return Ok(out);
-                };
-                push_line(&mut out, line.as_str())?;
-            }
-            Err(fault) => {
-                let DayFault::Record(fault) = fault else {
-                    return Err(AllocError);
-                };
-                let line = fault_line(heap, fault)?;
-                push_line(&mut out, line.as_str())?;
+            Ok(Some(line)) => push_line(&mut out, line.as_str())?,
+            Ok(None) => return Ok(out),
+            Err(DayFault::Record(fault)) => {
+                push_line(&mut out, fault_line(heap, fault)?.as_str())?;
                 return Ok(out);
             }
+            Err(DayFault::Memory(error)) => return Err(error),
         }
     }
 }

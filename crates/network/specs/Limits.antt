@@ -1,12 +1,8 @@
 -- The limits of a network that is written out as a list of arcs and a list of ranks.
-use Rattle.std.specs.Prelude.{◌≡◌, ℕ, ◌<◌, ◌≤◌, Bool, true, false, ◌&&◌, List, [], ◌∷◌, length, Some, None, Option, nat_le, nat_lt, slice_index_or}
+use Rattle.std.specs.Prelude.{◌≡◌, ℕ, ◌<◌, ◌≤◌, Bool, true, false, ◌&&◌, List, length, Some, None, Option, IsTrue, nat_le, nat_lt, slice_index_or}
+use Rattle.std.specs.List.{list_all}
 use Rattle.flow.specs.declared.Arc.{Arc}
 use Rattle.flow.specs.Network.{Network, is_ranked}
-
--- the test passes at each element
-abbrev pub each : {X : Type 0} → (X → Bool) → List X → Bool
-each p [] = true
-each p (x ∷ xs) = p x && each p xs
 
 -- both ends of the arc are nodes
 abbrev pub joins : ℕ → Arc → Bool
@@ -29,4 +25,4 @@ written source arcs ranks = record { nodes = length ranks; source = source; arcs
 abbrev pub Makes : ℕ → List Arc → List (Option ℕ) → Type 0
 Makes source arcs ranks =
     (length ranks ≤ 4096) × (length arcs ≤ 32768) × (source < length ranks) × (is_ranked (slice_index_or ranks source None) ≡ false)
-    × (each (joins (length ranks)) arcs ≡ true) × (each fits arcs ≡ true) × (each low_rank ranks ≡ true)
+    × IsTrue (list_all (joins (length ranks)) arcs) × IsTrue (list_all fits arcs) × IsTrue (list_all low_rank ranks)

@@ -1,10 +1,12 @@
 // A network that is stored: its arcs in one list, and the rank of each node in another.
-ghost use Rattle.std.specs.Prelude.{◌≡◌, ◌<◌, ◌≤◌, true, false, length, None, slice_index_or};
+ghost use Rattle.std.specs.Prelude.{◌≡◌, ◌<◌, ◌≤◌, false, length, None, IsTrue, slice_index_or};
+ghost use Rattle.std.specs.List.{list_all};
 ghost use Rattle.flow.specs.Network.{is_ranked};
-ghost use Rattle.network.specs.Limits.{each, fits, joins, low_rank};
+ghost use Rattle.network.specs.Limits.{fits, joins, low_rank};
 
 use flow::Arc;
 
+mod fault;
 mod works;
 
 // There is a node for each entry of `ranks`.
@@ -17,13 +19,13 @@ pub struct StoredNetwork {
     ghost few_arcs: { length arcs.items ≤ 32768 },
     ghost within: { source < length ranks.items },
     ghost bare: { is_ranked (slice_index_or ranks.items source None) ≡ false },
-    ghost ends: { each (joins (length ranks.items)) arcs.items ≡ true },
-    ghost capacities: { each fits arcs.items ≡ true },
-    ghost low: { each low_rank ranks.items ≡ true },
+    ghost ends: { IsTrue (list_all (joins (length ranks.items)) arcs.items) },
+    ghost capacities: { IsTrue (list_all fits arcs.items) },
+    ghost low: { IsTrue (list_all low_rank ranks.items) },
 }
 
 // Why lists of arcs and ranks make no network.
-#[derive(Clone, Copy)]
+#[derive(Clone, Copy, Debug, PartialEq, Eq)]
 pub enum NetworkError {
     // there are more than 4,096 nodes
     TooManyNodes,

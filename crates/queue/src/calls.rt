@@ -1,4 +1,4 @@
-ghost use Rattle.std.specs.Prelude.{◌≡◌, ◌+◌, ◌-◌, ◌<◌, true, false, [], ◌∷◌, ◌++◌, length, Some, None, ◌==◌};
+ghost use Rattle.std.specs.Prelude.{◌≡◌, ◌<◌, [], ◌∷◌, ◌++◌, length, IfErr, IsOk, MatchOption, OnErr, OnOk, ◌==◌};
 ghost use Rattle.queue.specs.Items.{items, slot_count};
 
 use super::Queue;
@@ -21,16 +21,17 @@ impl<'a, T: Copy> Queue<'a, T> {
         self.len == 0
     }
 
-    // Puts x at the end, or answers false and changes nothing where each slot is taken.
-    pub fn push(&mut self, x: T) -> bool
-        ensures full { result ≡ false → (length (items self.old) ≡ slot_count self.old) × (items self.new ≡ items self.old) }
-        ensures items { result ≡ true → items self.new ≡ items self.old ++ (x ∷ []) }
-        ensures succeeds { length (items self.old) < slot_count self.old → result ≡ true }
+    // Puts x at the end, or hands it back and changes nothing where each slot is taken.
+    pub fn push(&mut self, x: T) -> Result<(), T>
+        ensures items { OnOk result (items self.new ≡ items self.old ++ (x ∷ [])) }
+        ensures full { OnErr result ((length (items self.old) ≡ slot_count self.old) × (items self.new ≡ items self.old)) }
+        ensures handed_back { IfErr result (λ y. y ≡ x) }
+        ensures succeeds { length (items self.old) < slot_count self.old → IsOk result }
         ensures capacity { slot_count self.new ≡ slot_count self.old }
     {
         let cap = self.slots.len();
         if self.len == cap {
-            return false;
+            return Err(x);
         }
         let room = cap - self.head;
         let at = if self.len < room {
@@ -40,12 +41,12 @@ impl<'a, T: Copy> Queue<'a, T> {
         };
         self.slots[at] = x;
         self.len += 1;
-        true
+        Ok(())
     }
 
     // Takes the first item away.
     pub fn pop(&mut self) -> Option<T>
-        ensures items { elim result [ None ↦ (items self.old ≡ []) × (items self.new ≡ []) | Some x ↦ items self.old ≡ x ∷ items self.new ] }
+        ensures items { MatchOption result ((items self.old ≡ []) × (items self.new ≡ [])) (λ x. items self.old ≡ x ∷ items self.new) }
         ensures capacity { slot_count self.new ≡ slot_count self.old }
     {
         if self.len == 0 {

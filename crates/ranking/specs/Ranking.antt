@@ -1,4 +1,5 @@
--- What a ranking means, and the two that are supplied.
+-- What a ranking means, and the two that are supplied. (That these keep to the law is proved here, since the proof of a
+-- ghost member can be cited from specs/ alone.)
 use Rattle.std.specs.Prelude.{ℕ, ◌+◌, ◌≤◌, ◌<◌}
 use Rattle.std.proofs.Common.{arith}
 

@@ -23,7 +23,7 @@ pub trait Ranking {
 }
 
 // All of the first depot, then all of the second, and so on.
-#[derive(Clone, Copy)]
+#[derive(Clone, Copy, Debug, PartialEq, Eq)]
 pub struct DepotOrder;
 
 impl Ranking for DepotOrder {
@@ -41,7 +41,7 @@ impl Ranking for DepotOrder {
 }
 
 // Everything as early as possible: all depots in period 0, then in period 1, and so on.
-#[derive(Clone, Copy)]
+#[derive(Clone, Copy, Debug, PartialEq, Eq)]
 pub struct PeriodOrder;
 
 impl Ranking for PeriodOrder {

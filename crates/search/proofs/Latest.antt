@@ -1,8 +1,17 @@
 -- What `latest` says, and the step of the loop that links arcs.
-use Rattle.std.proofs.Common.{◌≡◌, ℕ, zero, suc, ◌+◌, ◌<◌, ◌≤◌, eqb, List, length, get_or, set, sym, ap, ◌∙◌, ⊎_elim, add-one, arith}
-use Rattle.std.proofs.lemmas.List.{get_or-set_same, get_or-set_other}
+use Rattle.std.proofs.Common.{◌≡◌, ℕ, zero, suc, ◌+◌, ◌<◌, ◌≤◌, eqb, ◌≢◌, Some, None, Option, sym, refl, ◌∙◌, ⊎_elim, add-one, arith}
 use Rattle.std.proofs.lemmas.Bool.{cases_eq, cases_lt, eq-eqb, ne_eqb, cond-true, cond-false}
-use Rattle.search.specs.Links.{Linked, latest}
+use Rattle.search.specs.Entries.{linked}
+use Rattle.search.specs.Links.{LinkedBy, latest}
+
+-- the link to an arc, or to none
+abbrev pub link_to : Option ℕ → ℕ
+link_to None = 0
+link_to (Some e) = e + 1
+
+pub link_linked : (n : ℕ) → link_to (linked n) ≡ n
+link_linked zero = refl
+link_linked (suc e) = add-one e
 
 module _ (at : ℕ → ℕ) (v : ℕ) where
   pub latest_hit : (e : ℕ) → at e ≡ v → latest at v (e + 1) ≡ e + 1
@@ -33,15 +42,16 @@ module _ (at : ℕ → ℕ) (v : ℕ) where
       (cases_eq (at n) v)
 
 -- one arc more is linked at the node that it has at that end
-pub linked_more : (at : ℕ → ℕ) (nodes e node : ℕ) (first next : List ℕ) → node ≡ at e → Linked at nodes e first next → node < nodes → length first ≡ nodes → e < length next
-    → Linked at nodes (e + 1) (set first node (e + 1)) (set next e (get_or first node 0))
-linked_more at nodes e node first next is so in-first long in-next = (
+pub linked_more : (at : ℕ → ℕ) (nodes e : ℕ) (first next first' next' : ℕ → ℕ) → LinkedBy at nodes e first next → at e < nodes
+    → first' (at e) ≡ e + 1 → ((v : ℕ) → v ≢ at e → first' v ≡ first v) → next' e ≡ first (at e) → ((k : ℕ) → k < e → next' k ≡ next k)
+    → LinkedBy at nodes (e + 1) first' next'
+linked_more at nodes e first next first' next' so in-first new-first old-first new-next old-next = (
   λ v l. ⊎_elim
-      (λ s. rw s (get_or-set_same first node (e + 1) 0 (omega arith) ∙ sym (latest_hit at node e (sym is))))
-      (λ d. get_or-set_other first node v (e + 1) 0 d ∙ so.0 v l ∙ sym (latest_miss at v e (λ q. d (sym q ∙ sym is))))
-      (cases_eq v node),
+      (λ s. rw s (new-first ∙ sym (latest_hit at (at e) e refl)))
+      (λ d. old-first v d ∙ so.0 v l ∙ sym (latest_miss at v e (λ q. d (sym q))))
+      (cases_eq v (at e)),
   λ k l. ⊎_elim
-      (λ s. rw s (get_or-set_same next e (get_or first node 0) 0 in-next ∙ so.0 node in-first ∙ ap (λ v. latest at v e) is))
-      (λ d. get_or-set_other next e k (get_or first node 0) 0 d ∙ so.1 k (omega arith))
+      (λ s. rw s (new-next ∙ so.0 (at e) in-first))
+      (λ d. old-next k (omega arith) ∙ so.1 k (omega arith))
       (cases_eq k e),
 )

@@ -1,7 +1,6 @@
 pub mod Layouts
-pub mod Checks
-pub mod Clearing
 pub mod Latest
+pub mod Linking
 pub mod Steps
 pub mod Turn
 pub mod Ways

@@ -1,7 +1,7 @@
 -- From one k to the next: what is walled off stays so, what is reached last is the new wall, and what was gained is the new figure.
-use Rattle.std.proofs.Common.{◌≡◌, ℕ, suc, ◌+◌, ◌-◌, ◌<◌, ◌≤◌, Bool, true, false, cond, ltb, ◌≢◌, ◌⊎◌, List, [], ◌∷◌, length, get_or, set, replicate, Some, None, Option, sym, refl, ap, ◌∙◌, subst, ap₂, ⊎_elim, arith}
+use Rattle.std.proofs.Common.{◌≡◌, ℕ, suc, ◌+◌, ◌-◌, ◌<◌, ◌≤◌, Bool, true, false, cond, ltb, ◌≢◌, ◌⊎◌, List, length, get_or, set, replicate, Some, None, Option, sym, refl, ap, ◌∙◌, subst, ⊎_elim, arith}
 use Rattle.std.proofs.Math.Path.{fun_ext}
-use Rattle.std.proofs.lemmas.List.{get_or-set_same, get_or-set_other}
+use Rattle.std.proofs.lemmas.List.{get_or-set_same, get_or-set_other, get_or-replicate, get_or_past, length-replicate}
 use Rattle.std.proofs.lemmas.Bool.{cases_Bool, cases_lt, lt-ltb, le-ltb, eqb-true, both_ways, cond-true, cond-false}
 use Rattle.flow.specs.Network.{Network, Sound, Flow, Settled, Cut, arriving, leaving, brought, granted, is_at, is_below, is_ranked}
 use Rattle.flow.specs.Theory.{Smallest}
@@ -116,18 +116,16 @@ module _ (N : Network) (sound : Sound N) (k d : ℕ) (f g marks marks' figures f
     shares = λ r l. ⊎_elim (λ b. noted.1 r b ∙ so.shares r b ∙ old_share r b) (λ b. let e : r + 1 ≡ k = omega arith in noted.0 r e ∙ last_share r e) (cases_lt (r + 1) k);
   }
 
-zero_list : (xs : List ℕ) → ((e : ℕ) → get_or xs e 0 ≡ 0) → xs ≡ replicate (length xs) 0
-zero_list [] none = refl
-zero_list (x ∷ xs) none = ap₂ ◌∷◌ (none 0) (zero_list xs (λ e. none (suc e)))
-
 -- nothing flows yet, and nothing is marked
-pub standing_start : (N : Network) (f marks figures : List ℕ) → length f ≡ length N.arcs → ((e : ℕ) → get_or f e 0 ≡ 0) → ((v : ℕ) → get_or marks v 0 ≡ 0) → Standing N 0 f marks figures
-standing_start N f marks figures sized none bare =
-    let e : f ≡ replicate (length N.arcs) 0 = zero_list f none ∙ ap (λ n. replicate n 0) sized in
+pub standing_start : (N : Network) (f marks figures : List ℕ) (n : ℕ) → f ≡ replicate (length N.arcs) 0 → marks ≡ replicate n 0 → Standing N 0 f marks figures
+standing_start N f marks figures n none bare =
     record {
-      flow = rw e (nothing_flows N);
-      idle = λ v l ne nb. omega (arith, ap (λ x. arriving N x v) e ∙ carried_none _ N.arcs);
-      low = λ v. omega (arith, bare v);
+      flow = rw none (nothing_flows N);
+      idle = λ v l ne nb. omega (arith, ap (λ x. arriving N x v) none ∙ carried_none _ N.arcs);
+      low = λ v. ⊎_elim
+          (λ l. omega (arith, ap (λ xs. get_or xs v 0) bare, get_or-replicate {A = ℕ} n v 0 0 l))
+          (λ l. omega (arith, get_or_past marks v 0 (omega (arith, ap length bare, length-replicate {A = ℕ} n 0))))
+          (cases_lt v n);
       walls = λ j l. absurd (omega arith);
       shares = λ r l. absurd (omega arith);
     }

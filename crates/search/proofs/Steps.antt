@@ -102,8 +102,7 @@ module _ (N : Network) (load : List ℕ) where
     pub reach_step : Searching N load after (u ∷ (items ++ (v ∷ [])))
     reach_step =
         record {
-          sized = length-set visits v made ∙ so.sized;
-          tree = record { root = reach_keeps N.source (omega (arith, so.tree.root)) ∙ so.tree.root; enters = enters };
+          tree = record { sized = length-set visits v made ∙ so.tree.sized; root = reach_keeps N.source (omega (arith, so.tree.root)) ∙ so.tree.root; enters = enters };
           opened = opens;
           rest = λ w l. ⊎_elim
               (λ s. inl (inr (in_last w v items s)))
@@ -126,7 +125,6 @@ module _ (N : Network) (load : List ℕ) where
   pub done_step : (visits : List Visit) (items : List ℕ) (u : ℕ) → Searching N load visits (u ∷ items) → ((end : End) → Done N load visits end u) → Searching N load visits items
   done_step visits items u so done =
       record {
-        sized = so.sized;
         tree = so.tree;
         opened = so.opened;
         rest = λ v l. ⊎_elim (λ i. ⊎_elim (λ s. inr (λ end e in' is us. done end e in' (is ∙ s) us)) (λ j. inl j) i) (λ d. inr d) (so.rest v l);
@@ -145,8 +143,7 @@ module _ (N : Network) (load : List ℕ) where
       let root : level (set visits N.source m) N.source ≡ 1 = ap (λ k. k.level) is ∙ one in
       let off : (v : ℕ) → v ≢ N.source → level (set visits N.source m) v ≡ 0 = λ v d. ap (λ k. k.level) (get_or-set_other visits N.source v m unvisited d) ∙ none v in
       record {
-        sized = length-set visits N.source m ∙ sized;
-        tree = record { root = root; enters = λ v l d. absurd (omega (arith, off v d)) };
+        tree = record { sized = length-set visits N.source m ∙ sized; root = root; enters = λ v l d. absurd (omega (arith, off v d)) };
         opened = λ v l d. absurd (omega (arith, off v d));
         rest = λ v l. ⊎_elim (λ s. inl (inl s)) (λ d. absurd (omega (arith, off v d))) (cases_eq v N.source);
         visited = λ v i. ⊎_elim (λ s. rw s (omega (arith, root))) (λ j. absurd j) i;

@@ -1,5 +1,5 @@
 -- The loop over the arcs at a node.
-use Rattle.std.proofs.Common.{◌≡◌, ℕ, ◌+◌, ◌<◌, ◌≤◌, cond, eqb, ltb, List, [], ◌∷◌, ◌++◌, length, get_or, set, sym, refl, ap, ◌∙◌, inr, ⊎_elim, arith}
+use Rattle.std.proofs.Common.{◌≡◌, ℕ, ◌+◌, ◌<◌, ◌≤◌, cond, eqb, ltb, List, [], ◌∷◌, ◌++◌, length, set, sym, refl, ap, ◌∙◌, inr, ⊎_elim, arith}
 use Rattle.std.proofs.lemmas.List.{length_push, get_or_past}
 use Rattle.std.proofs.lemmas.List.Sums.{count_by-le-length}
 use Rattle.std.proofs.lemmas.Bool.{cases_eq, cases_lt, cases_order, eq-eqb, ne_eqb, cond-true, cond-false}
@@ -8,7 +8,7 @@ use Rattle.flow.specs.Network.{Network}
 use Rattle.network.specs.Proper.{ArcsProper}
 use Rattle.search.proofs.Latest.{latest_last}
 use Rattle.search.proofs.Steps.{reach_step, reach_keeps, reach_count, in_last}
-use Rattle.search.specs.Links.{key, Linked, latest}
+use Rattle.search.specs.Links.{key, LinkedBy, latest}
 use Rattle.search.specs.Ends.{other}
 use Rattle.search.specs.Residual.{Usable}
 use Rattle.search.specs.Visits.{unvisited, level, count, Done, Searching, Keeps, Paced}
@@ -32,10 +32,10 @@ key_within Head nodes arcs e s l = (s e l).1
 
 module _ (N : Network) (load : List ℕ) where
   pub level_low : (visits : List Visit) (pending : List ℕ) → Searching N load visits pending → (v : ℕ) → level visits v ≤ N.nodes
-  level_low visits pending so v = omega (arith, so.low v, so.sized, count_by-le-length (λ m. ltb 0 m.level) visits)
+  level_low visits pending so v = omega (arith, so.low v, so.tree.sized, count_by-le-length (λ m. ltb 0 m.level) visits)
 
   pub room_left : (visits : List Visit) (node : ℕ) (waiting : List ℕ) → Searching N load visits (node ∷ waiting) → length waiting < N.nodes
-  room_left visits node waiting so = omega (arith, so.few, so.sized, count_by-le-length (λ m. ltb 0 m.level) visits)
+  room_left visits node waiting so = omega (arith, so.few, so.tree.sized, count_by-le-length (λ m. ltb 0 m.level) visits)
 
   -- what `reach` leaves
   pub reach_either : (visits visits' : List Visit) (waiting waiting' : List ℕ) (u v e : ℕ) (end : End) (m : Visit) → Searching N load visits (u ∷ waiting)
@@ -60,8 +60,8 @@ module _ (N : Network) (load : List ℕ) where
       (rw (new, queued) so, λ w l. ap (λ ms. level ms w) new, rw (new, ← to) there, omega (arith, ap count new, ap length queued)))
       (cases_eq (level visits v) 0)
 
-  module _ (end : End) (start : List Visit) (queued : List ℕ) (node : ℕ) (first next : List ℕ) (linked : Linked (key end N.arcs) N.nodes (length N.arcs) first next) where
-    pub scan_start : (visits : List Visit) (waiting : List ℕ) → Searching N load visits (node ∷ waiting) → node < N.nodes → Scanned N load end visits visits node waiting waiting (get_or first node 0)
+  module _ (end : End) (start : List Visit) (queued : List ℕ) (node : ℕ) (first next : ℕ → ℕ) (linked : LinkedBy (key end N.arcs) N.nodes (length N.arcs) first next) where
+    pub scan_start : (visits : List Visit) (waiting : List ℕ) → Searching N load visits (node ∷ waiting) → node < N.nodes → Scanned N load end visits visits node waiting waiting (first node)
     scan_start visits waiting so in' =
         let last = latest_last (key end N.arcs) node (length N.arcs) in
         let is = linked.0 node in' in
@@ -76,11 +76,11 @@ module _ (N : Network) (load : List ℕ) where
 
     pub scan_next : (visits visits' : List Visit) (waiting waiting' : List ℕ) (at e : ℕ) → Scanned N load end start visits node queued waiting at → at ≡ e + 1
         → Searching N load visits' (node ∷ waiting') → Keeps visits visits' → Paced visits visits' waiting waiting' → (Usable N load end e → 0 < level visits' (key (other end) N.arcs e))
-        → Scanned N load end start visits' node queued waiting' (get_or next e 0)
+        → Scanned N load end start visits' node queued waiting' (next e)
     scan_next visits visits' waiting waiting' at e old is so keeps paced there =
         let in' : e < length N.arcs = omega (arith, old.bound) in
         let here : key end N.arcs e ≡ node = old.here e is in
-        let next_is : get_or next e 0 ≡ latest (key end N.arcs) node e = linked.1 e in' ∙ ap (λ v. latest (key end N.arcs) v e) here in
+        let next_is : next e ≡ latest (key end N.arcs) node e = linked.1 e in' ∙ ap (λ v. latest (key end N.arcs) v e) here in
         let last = latest_last (key end N.arcs) node e in
         record {
           so = so;

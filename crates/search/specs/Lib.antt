@@ -1,5 +1,7 @@
 pub mod Answers
 pub mod Ends
+pub mod Entries
+pub mod Errors
 pub mod Gains
 pub mod Layouts
 pub mod Links

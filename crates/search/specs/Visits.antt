@@ -31,7 +31,9 @@ pub record Entered (N : Network) (visits : List Visit) (v : ℕ) : Type 0 where
   pub starts : 0 < level visits (parent N visits v)
   pub rises : level visits v ≡ level visits (parent N visits v) + 1
 
+-- there is a visit for each node, and the nodes reached form a tree from the source
 pub record Tree (N : Network) (visits : List Visit) : Type 0 where
+  pub sized : length visits ≡ N.nodes
   pub root : level visits N.source ≡ 1
   pub enters : (v : ℕ) → 0 < level visits v → v ≢ N.source → Entered N visits v
 
@@ -60,7 +62,6 @@ count visits = count_by (λ m. nat_lt 0 m.level) visits
 
 -- a search under way: `pending` are the nodes reached whose arcs are not all looked at yet
 pub record Searching (N : Network) (f : List ℕ) (visits : List Visit) (pending : List ℕ) : Type 0 where
-  pub sized : length visits ≡ N.nodes
   pub tree : Tree N visits
   pub opened : Open N f visits
   pub rest : (v : ℕ) → 0 < level visits v → In v pending ⊎ ((end : End) → Done N f visits end v)

@@ -1,36 +1,44 @@
 // A copy of a network, which the search asks in its place.
-ghost use Rattle.std.specs.Prelude.{◌≡◌, ℕ, ◌<◌, ◌≤◌, true, length, take, slice_index};
-ghost use Rattle.network.specs.Limits.{low_rank};
-ghost use Rattle.search.specs.Layouts.{rank_code};
+ghost use Rattle.std.specs.Prelude.{◌≡◌, ℕ, length};
+ghost use Rattle.search.specs.Entries.{arcs_of, first_at, rank_at};
+ghost use Rattle.search.specs.Links.{Linked};
+ghost use Rattle.search.specs.declared.end.End.{End};
 
-use flow::Arc;
+use crate::end::End;
+use crate::entry::{ArcEntry, Links, NodeEntry};
 use network::Network;
 
-pub(crate) fn copy_arcs<N: Network>(net: &N, arcs: &mut [Arc])
-    requires { length (N.meaning net.now).arcs ≤ length arcs.old }
-    ensures { take (length (N.meaning net.now).arcs) arcs.new ≡ (N.meaning net.now).arcs }
+// Copies the ranks, with no arc linked yet.
+pub(crate) fn copy_nodes<N: Network>(net: &N, nodes: &mut [NodeEntry])
+    requires { length nodes.old ≡ (N.meaning net.now).nodes }
+    ensures ranks { (v : ℕ) → rank_at nodes.new v ≡ (N.meaning net.now).rank v }
+    ensures unlinked { (end : End) (v : ℕ) → first_at end nodes.new v ≡ 0 }
 {
-    for e in 0..net.arc_count() {
-        arcs[e] = net.arc(e);
+    for (v, entry) in nodes.iter_mut().enumerate() {
+        *entry = NodeEntry {
+            rank: net.rank(v),
+            first: Links::default(),
+        };
     }
 }
 
-// One more than the rank, or 0 for none.
-fn code(rank: Option<u16>) -> u16
-    requires { low_rank rank ≡ true }
-    ensures { result ≡ rank_code rank }
+// Copies the arcs, and links each at both of its ends.
+pub(crate) fn copy_arcs<N: Network>(net: &N, arcs: &mut [ArcEntry], nodes: &mut [NodeEntry])
+    requires arcs { length arcs.old ≡ length (N.meaning net.now).arcs }
+    requires nodes { length nodes.old ≡ (N.meaning net.now).nodes }
+    requires unlinked { (end : End) (v : ℕ) → first_at end nodes.old v ≡ 0 }
+    ensures arcs { arcs_of arcs.new ≡ (N.meaning net.now).arcs }
+    ensures ranks { (v : ℕ) → rank_at nodes.new v ≡ rank_at nodes.old v }
+    ensures linked { Linked arcs.new nodes.new }
 {
-    match rank {
-        Some(rank) => rank + 1,
-        None => 0,
-    }
-}
-
-pub(crate) fn copy_ranks<N: Network>(net: &N, ranks: &mut [u16])
-    requires { (N.meaning net.now).nodes ≤ length ranks.old }
-    ensures { (v : ℕ) → v < (N.meaning net.now).nodes → slice_index ranks.new v ≡ rank_code ((N.meaning net.now).rank v) }
-{
-    for v in 0..net.node_count() {
-        ranks[v] = code(net.rank(v));
+    for (e, entry) in arcs.iter_mut().enumerate() {
+        let arc = net.arc(e);
+        let link = e as u16 + 1;
+        let out = nodes[arc.tail as usize].first.relink(End::Tail, link);
+        let back = nodes[arc.head as usize].first.relink(End::Head, link);
+        *entry = ArcEntry {
+            arc,
+            next: Links { out, back },
+        };
     }
 }

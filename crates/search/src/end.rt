@@ -4,8 +4,9 @@ ghost use Rattle.search.specs.Ends.{end_of, other, raised_by, spare_by, usable_b
 
 use flow::Arc;
 
-#[derive(Clone, Copy)]
+#[derive(Clone, Copy, Default)]
 pub enum End {
+    #[default]
     Tail,
     Head,
 }

@@ -1,36 +1,23 @@
 // A network laid out in lists, with the arcs at each node linked.
-ghost use Rattle.std.specs.Prelude.{◌≡◌, ◌<◌, ◌≤◌, length, slice_index};
+ghost use Rattle.std.specs.Prelude.{◌≡◌, ◌<◌, ◌≤◌, length, None};
 ghost use Rattle.network.specs.Proper.{ArcsProper};
-ghost use Rattle.search.specs.Links.{Linked, key};
-ghost use Rattle.search.specs.declared.end.End.TheVariants.{Tail, Head};
+ghost use Rattle.search.specs.Entries.{arcs_of, rank_at};
+ghost use Rattle.search.specs.Links.{Linked};
 
-use flow::Arc;
+use crate::entry::{ArcEntry, NodeEntry};
 
-// Links at one end of the arcs: for each node one more than the last arc that has the node at that end, and for each arc
-// one more than the one before it at the same node; 0 ends.
-#[derive(Clone, Copy)]
-pub(crate) struct Links<'a> {
-    pub(crate) first: &'a [u16],
-    pub(crate) next: &'a [u16],
-}
+mod asking;
 
-// There is a node for each entry of `ranks`, which is one more than its rank, and 0 where it has none.
+// The nodes are numbered by their entries, and so are the arcs.
 #[derive(Clone, Copy)]
 pub(crate) struct Layout<'a> {
     pub(crate) source: u16,
-    pub(crate) arcs: &'a [Arc],
-    pub(crate) ranks: &'a [u16],
-    pub(crate) leaving: Links<'a>,
-    pub(crate) entering: Links<'a>,
-    ghost few_nodes: { length ranks.now ≤ 4096 },
+    pub(crate) arcs: &'a [ArcEntry],
+    pub(crate) nodes: &'a [NodeEntry],
+    ghost few_nodes: { length nodes.now ≤ 4096 },
     ghost few_arcs: { length arcs.now ≤ 32768 },
-    ghost within: { source < length ranks.now },
-    ghost bare: { slice_index ranks.now source ≡ 0 },
-    ghost proper: { ArcsProper (length ranks.now) arcs.now },
-    ghost out_nodes: { length leaving.first.now ≡ length ranks.now },
-    ghost out_arcs: { length leaving.next.now ≡ length arcs.now },
-    ghost out: { Linked (key Tail arcs.now) (length ranks.now) (length arcs.now) leaving.first.now leaving.next.now },
-    ghost in_nodes: { length entering.first.now ≡ length ranks.now },
-    ghost in_arcs: { length entering.next.now ≡ length arcs.now },
-    ghost back: { Linked (key Head arcs.now) (length ranks.now) (length arcs.now) entering.first.now entering.next.now },
+    ghost within: { source < length nodes.now },
+    ghost bare: { rank_at nodes.now source ≡ None },
+    ghost proper: { ArcsProper (length nodes.now) (arcs_of arcs.now) },
+    ghost linked: { Linked arcs.now nodes.now },
 }

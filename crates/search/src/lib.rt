@@ -3,14 +3,17 @@
 
 mod copying;
 mod end;
+mod entry;
+mod error;
 mod flood;
 mod layout;
-mod links;
-mod push;
 mod rounds;
 mod serving;
 mod visit;
+mod way;
 
 pub use end::End;
-pub use serving::{SearchError, Work, serve};
+pub use entry::{ArcEntry, Links, NodeEntry};
+pub use error::SearchError;
+pub use serving::{Work, serve};
 pub use visit::Visit;

@@ -1,26 +1,33 @@
 // How the nodes were reached.
 ghost use Rattle.std.specs.Prelude.{◌≡◌, ℕ, ◌<◌, [], ◌∷◌, ◌++◌, length, if◌then◌else◌, nat_eq, slice_set};
 ghost use Rattle.queue.specs.Items.{items, slot_count};
-ghost use Rattle.search.specs.Visits.{level};
+ghost use Rattle.search.specs.Visits.{level, unvisited};
 
 use crate::end::End;
 use queue::Queue;
 
 // The level is one more than that of the node that it was reached from, 1 at the source, and 0 where the node was not
 // reached; the node was reached along the arc, from that end of it.
-#[derive(Clone, Copy)]
+// (An `Option` of it would take two bytes more, and a search has 16 bytes for each node.)
+#[derive(Clone, Copy, Default)]
 pub struct Visit {
     pub level: u16,
     pub arc: u16,
     pub side: End,
 }
 
-pub(crate) fn clear_visits(visits: &mut [Visit])
+// Of a node that is not reached.
+const UNVISITED: Visit = Visit {
+    level: 0,
+    arc: 0,
+    side: End::Tail,
+};
+
+// Forgets each visit.
+pub(crate) fn clear(visits: &mut [Visit])
     ensures { (v : ℕ) → level visits.new v ≡ 0 }
 {
-    for visit in visits.iter_mut() {
-        visit.level = 0;
-    }
+    visits.fill(UNVISITED);
 }
 
 // Notes and queues a node that was not reached yet.
@@ -31,8 +38,9 @@ pub(crate) fn reach(visits: &mut [Visit], waiting: &mut Queue<u16>, node: u16, v
     ensures waiting { items waiting.new ≡ (if nat_eq (level visits.old node) 0 then items waiting.old ++ (node ∷ []) else items waiting.old) }
     ensures slots { slot_count waiting.new ≡ slot_count waiting.old }
 {
-    if visits[node as usize].level == 0 {
-        visits[node as usize] = visit;
-        waiting.push(node);
+    let seen = &mut visits[usize::from(node)];
+    if seen.level == 0 {
+        *seen = visit;
+        waiting.push(node).unwrap();
     }
 }

@@ -1,4 +1,4 @@
-pub mod Reading
-pub mod Text
-pub mod Counting
+pub mod Digits
+pub mod Entries
 pub mod Taken
+pub mod Text

@@ -1,7 +1,5 @@
 -- How lists of numbers are printed.
-use Rattle.std.proofs.Common.{◌≡◌, ℕ, List, [], ◌∷◌, ◌++◌, Some, Ok, Option, Result, String, IfOk, string_bytes, codes, decimal, refl, ap, sym, subst, ◌∙◌, append_assoc}
-use Rattle.std.specs.Option.{IfSome}
-use Rattle.std.specs.declared.alloc.Global.{Global}
+use Rattle.std.proofs.Common.{◌≡◌, ℕ, List, [], ◌∷◌, ◌++◌, Some, Ok, codes, decimal, refl, ap, sym, ◌∙◌, append_assoc}
 use Rattle.std.specs.Fmt.{debug_items, debug_list, comma_space, ◌++?◌}
 use Rattle.std.proofs.lemmas.List.{append-nil}
 use Rattle.search_trial.specs.Serving.{commas, list_text, answer_text}
@@ -19,10 +17,7 @@ listed (n ∷ m ∷ ns) = ap (λ o. Some [] ++? Some (decimal n) ++? o) (behind 
 pub shows : (ns : List ℕ) → debug_list (λ k. Some (decimal k)) ns ≡ Some (list_text ns)
 shows ns = ap (λ o. Some (91 ∷ []) ++? o ++? Some (93 ∷ [])) (listed ns)
 
--- a format whose output is known gives it
-pub gives : {E : Type 0} (r : Result (String Global) E) {o : Option (List ℕ)} {t : List ℕ} → o ≡ Some t → IfOk r (λ s. IfSome o (λ bs. string_bytes s ≡ bs)) → IfOk r (λ s. string_bytes s ≡ t)
-gives r e h = subst (λ o. IfOk r (λ s. IfSome o (λ bs. string_bytes s ≡ bs))) e h
-
+-- the sentence of what a trial gets
 pub sentence : (x : Unit {0}) (fs ms : List ℕ) → Some (codes "figures ") ++? debug_list (λ k. Some (decimal k)) fs ++? Some (codes " marks ") ++? debug_list (λ k. Some (decimal k)) ms ≡ Some (answer_text (Ok x) fs ms)
 sentence x fs ms =
     ap (λ o. Some (codes "figures ") ++? o ++? Some (codes " marks ") ++? debug_list (λ k. Some (decimal k)) ms) (shows fs)

@@ -1,3 +1,5 @@
 pub mod Numbers
-pub mod Serving
+pub mod Entries
+pub mod Errors
 pub mod Reading
+pub mod Serving

@@ -2,9 +2,10 @@
 use Rattle.std.specs.Prelude.{◌≡◌, ℕ, ◌<◌, ◌≤◌, List, [], ◌∷◌, ◌++◌, Ok, Err, Result, vec_items, codes, decimal}
 use Rattle.flow.specs.Network.{Network}
 use Rattle.network.specs.Stored.{stored_meaning}
+use Rattle.search.specs.Errors.{error_text}
 use Rattle.search.specs.Served.{Served}
-use Rattle.search.specs.declared.serving.SearchError.{SearchError}
-use Rattle.search.specs.declared.serving.SearchError.TheVariants.{TooManyRanks, LoadsTooShort, MarksTooShort, FiguresTooShort, WorkTooShort}
+use Rattle.search.specs.declared.error.SearchError.{SearchError}
+use Rattle.search.specs.declared.error.SearchError.TheVariants.{TooManyRanks}
 use Rattle.search_trial.specs.declared.trial.Trial.{Trial}
 
 -- The ranks are served; or more than 1,024 are asked for, and all is as it was.
@@ -32,11 +33,7 @@ list_text ns = codes "[" ++ commas ns ++ codes "]"
 -- the figures and the marks, or why there are none
 abbrev pub answer_text : Result Unit SearchError → List ℕ → List ℕ → List ℕ
 answer_text (Ok x) figures marks = codes "figures " ++ list_text figures ++ codes " marks " ++ list_text marks
-answer_text (Err TooManyRanks) figures marks = codes "too many ranks"
-answer_text (Err LoadsTooShort) figures marks = codes "a list is too short"
-answer_text (Err MarksTooShort) figures marks = codes "a list is too short"
-answer_text (Err FiguresTooShort) figures marks = codes "a list is too short"
-answer_text (Err WorkTooShort) figures marks = codes "a list is too short"
+answer_text (Err e) figures marks = error_text e
 
 -- the text of what a trial gets
 abbrev pub text_of : Trial → List ℕ

@@ -9,7 +9,7 @@ use numbers::Numbers;
 use std::io::Read;
 use std::time::Instant;
 use std::{env, io};
-use trial::Trial;
+use trial::{Trial, TrialError};
 
 // The most bytes that are read.
 const READ_LIMIT: u64 = 16777216;
@@ -18,13 +18,11 @@ const READ_LIMIT: u64 = 16777216;
 fn repeats(rt: &HostRuntime) -> io::Result<u32> {
     let mut args = env::args(rt)?;
     let _ = args.next();
-    let Some(text) = args.next() else {
-        return Ok(1);
-    };
-    match text.as_str().parse::<u32>() {
-        Ok(n) => Ok(n),
-        Err(_) => Ok(1),
-    }
+    Ok(
+        args.next()
+            .and_then(|text| text.parse::<u32>().ok())
+            .unwrap_or(1),
+    )
 }
 
 // Serves one network so many times, and prints what it gets.
@@ -38,8 +36,7 @@ fn run(rt: &HostRuntime, trial: &mut Trial, times: u32) -> io::Result<()> {
         let micros = taken.as_micros() / u128::from(times);
         eprintln!(rt; "{micros} microseconds")?;
     }
-    let text = trial.text(rt.alloc())?;
-    rt.println(text)
+    println!(rt; "{trial}")
 }
 
 fn main(rt: HostRuntime) -> io::Result<()> {
@@ -47,12 +44,10 @@ fn main(rt: HostRuntime) -> io::Result<()> {
     let mut input = Vec::new(rt.alloc());
     rt.stdin().take(READ_LIMIT).read_to_end(&mut input)?;
     let mut numbers = Numbers::new(input.as_slice());
-    for _ in 0..READ_LIMIT {
-        let Some(nodes) = numbers.next() else {
-            break;
-        };
-        match Trial::read(rt.alloc(), nodes, &mut numbers)? {
+    while let Some(nodes) = numbers.next() {
+        match Trial::read(rt.alloc(), nodes, &mut numbers) {
             Ok(mut trial) => run(&rt, &mut trial, times)?,
+            Err(TrialError::OutOfMemory(error)) => return Err(io::Error::from(error)),
             Err(why) => rt.println(why)?,
         }
     }

@@ -1,12 +1,8 @@
 // The decimal numbers in a text, one after another. The methods are in the module below, since their contracts speak of it.
-ghost use Rattle.std.specs.Prelude.{◌≤◌, length};
-
 mod reading;
 
-// What stands before `at` is read.
+// What is still to be read of the text.
 #[derive(Drop)]
 pub struct Numbers<'a> {
-    text: &'a [u8],
-    at: usize,
-    ghost within: { at ≤ length text.now },
+    rest: &'a [u8],
 }

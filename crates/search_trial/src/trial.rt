@@ -3,14 +3,18 @@
 ghost use Rattle.std.specs.Prelude.{◌≡◌, length};
 ghost use Rattle.network.specs.Stored.{stored_meaning};
 
-use flow::Arc;
 use network::StoredNetwork;
-use search::{SearchError, Visit};
+use search::{ArcEntry, NodeEntry, SearchError, Visit};
 
+mod entries;
+mod error;
 mod reading;
 mod serving;
 
-// The lists have an entry for each arc, for each node, and for each rank asked for.
+pub use error::TrialError;
+
+// The lists have an entry for each arc, for each node, and for each rank asked for. They are what the search is lent, and so
+// they are kept as it takes them.
 #[derive(Drop)]
 pub struct Trial {
     net: StoredNetwork,
@@ -18,12 +22,8 @@ pub struct Trial {
     loads: Vec<u32>,
     marks: Vec<u16>,
     figures: Vec<u64>,
-    arcs: Vec<Arc>,
-    next_out: Vec<u16>,
-    next_in: Vec<u16>,
-    node_ranks: Vec<u16>,
-    first_out: Vec<u16>,
-    first_in: Vec<u16>,
+    arcs: Vec<ArcEntry>,
+    nodes: Vec<NodeEntry>,
     visits: Vec<Visit>,
     slots: Vec<u16>,
     answer: Result<(), SearchError>,
@@ -31,11 +31,7 @@ pub struct Trial {
     ghost marks_fit: { length marks.items ≡ (stored_meaning net).nodes },
     ghost figures_fit: { length figures.items ≡ ranks },
     ghost arcs_fit: { length arcs.items ≡ length (stored_meaning net).arcs },
-    ghost next_out_fit: { length next_out.items ≡ length (stored_meaning net).arcs },
-    ghost next_in_fit: { length next_in.items ≡ length (stored_meaning net).arcs },
-    ghost node_ranks_fit: { length node_ranks.items ≡ (stored_meaning net).nodes },
-    ghost first_out_fit: { length first_out.items ≡ (stored_meaning net).nodes },
-    ghost first_in_fit: { length first_in.items ≡ (stored_meaning net).nodes },
+    ghost nodes_fit: { length nodes.items ≡ (stored_meaning net).nodes },
     ghost visits_fit: { length visits.items ≡ (stored_meaning net).nodes },
     ghost slots_fit: { length slots.items ≡ (stored_meaning net).nodes },
 }

@@ -1,15 +1,15 @@
 -- One hold changes: where slips and numbers stand then.
 use Rattle.std.proofs.Common.{◌≡◌, ℕ, ◌+◌, Bool, true, false, cond, ◌&&◌, eqb, ◌⊎◌, List, [], ◌∷◌, ◌++◌, length, set, Some, None, Option, sym, refl, ap, ◌∙◌, subst, inl, inr, arith}
 use Rattle.std.specs.List.{slice_get}
-use Rattle.std.specs.Option.{option_map}
-use Rattle.std.proofs.lemmas.Option.{slice_get_past}
+use Rattle.std.specs.Option.{option_map, option_and_then}
 use Rattle.std.proofs.lemmas.Bool.{cases_eq, cond-false, and_parts, eqb-true, eq-eqb, ne_eqb}
 use Rattle.slips.specs.declared.moves.SlipState.{SlipState}
 use Rattle.slips.specs.declared.moves.SlipState.TheVariants.{InHand, Pinned, Booked, Released}
 use Rattle.slips.specs.declared.slip.Slip.{Slip}
 use Rattle.slips.specs.declared.table.Entry.{Entry}
-use Rattle.slips.specs.Holds.{state_of, standing_of, stands_in, stands_for, entry_of}
-use Rattle.slips.proofs.Places.{nth_within, nth_set_same, nth_set_other, nth_push_other, nth_push_new}
+use Rattle.slips.specs.Holds.{state_of, standing_of, stands_for, entry_of}
+use Rattle.std.proofs.lemmas.Option.{gets, slice_get_past}
+use Rattle.std.proofs.lemmas.Grind.{common_steps}
 use Rattle.slips.proofs.Tables.{stands, entry_stands}
 use Rattle.slip_runs.specs.Deeds.{same}
 use Rattle.slip_runs.specs.Laws.{Lasts, Onward}
@@ -24,8 +24,8 @@ pub record Changed (hs hs' : List Entry) (s : Slip) (o : Option SlipState) (x : 
 pub pushed : (hs : List Entry) (s : Slip) (x : SlipState) → s.number ≡ length hs → Changed hs (hs ++ entry_of s x ∷ []) s None x
 pushed hs s x e = record {
   was = slice_get_past hs s.number (omega arith);
-  is = ap (slice_get (hs ++ entry_of s x ∷ [])) e ∙ nth_push_new hs (entry_of s x);
-  others = λ k ne. nth_push_other hs (entry_of s x) k (λ f. ne (f ∙ sym e));
+  is = grind (arith, common_steps, gets);
+  others = λ k ne. grind (arith, common_steps, gets);
 }
 
 -- a hold that moves from standing y to standing x
@@ -34,8 +34,8 @@ shifted hs s y x e =
     let at = stands hs s y e in
     record {
       was = at;
-      is = nth_set_same hs s.number (entry_of s x) (nth_within hs s.number (entry_of s y) at);
-      others = λ k ne. nth_set_other hs s.number k (entry_of s x) ne;
+      is = grind (arith, common_steps, gets);
+      others = λ k ne. grind (arith, common_steps, gets);
     }
 
 same_slip : (s t : Slip) → same s t ≡ true → s ≡ t
@@ -50,17 +50,17 @@ same_slip s t e =
 
 and_rest : (a b : Bool) → a ≡ true → a && b ≡ false → b ≡ false
 and_rest true b e f = f
-and_rest false b e f = absurd (let z : ◌≡◌ {A = ℕ} 0 1 = cc in omega arith)
+and_rest false b e f = cc
 
 -- a slip of the number that is another slip stands nowhere
 unlike : (t s : Slip) (y : SlipState) → same t s ≡ false → t.number ≡ s.number → stands_for t (entry_of s y) ≡ None
 unlike t s y ne e = cond-false _ _ _ (and_rest (eqb t.number s.number) _ (eq-eqb t.number s.number e) ne)
 
-unlike_any : (t s : Slip) (o : Option SlipState) → same t s ≡ false → t.number ≡ s.number → stands_in t (option_map (entry_of s) o) ≡ None
+unlike_any : (t s : Slip) (o : Option SlipState) → same t s ≡ false → t.number ≡ s.number → option_and_then (stands_for t) (option_map (entry_of s) o) ≡ None
 unlike_any t s None ne e = refl
 unlike_any t s (Some y) ne e = unlike t s y ne e
 
-stood : (s : Slip) (o : Option SlipState) → stands_in s (option_map (entry_of s) o) ≡ o
+stood : (s : Slip) (o : Option SlipState) → option_and_then (stands_for s) (option_map (entry_of s) o) ≡ o
 stood s None = refl
 stood s (Some y) = entry_stands s y
 
@@ -71,16 +71,16 @@ state_stood s (Some y) = refl
 module _ (hs hs' : List Entry) (s : Slip) (o : Option SlipState) (x : SlipState) (c : Changed hs hs' s o x) where
   apart : (t : Slip) → same t s ≡ false → standing_of hs' t ≡ standing_of hs t
   apart t ne = elim (cases_eq t.number s.number) [
-    | inl e ↦ ap (λ (k : ℕ). stands_in t (slice_get hs' k)) e ∙ ap (stands_in t) c.is ∙ unlike t s x ne e
-        ∙ sym (ap (λ (k : ℕ). stands_in t (slice_get hs k)) e ∙ ap (stands_in t) c.was ∙ unlike_any t s o ne e)
-    | inr d ↦ ap (stands_in t) (c.others t.number d)
+    | inl e ↦ ap (λ (k : ℕ). option_and_then (stands_for t) (slice_get hs' k)) e ∙ ap (option_and_then (stands_for t)) c.is ∙ unlike t s x ne e
+        ∙ sym (ap (λ (k : ℕ). option_and_then (stands_for t) (slice_get hs k)) e ∙ ap (option_and_then (stands_for t)) c.was ∙ unlike_any t s o ne e)
+    | inr d ↦ ap (option_and_then (stands_for t)) (c.others t.number d)
   ]
 
   here_before : standing_of hs s ≡ o
-  here_before = ap (stands_in s) c.was ∙ stood s o
+  here_before = ap (option_and_then (stands_for s)) c.was ∙ stood s o
 
   here_after : standing_of hs' s ≡ Some x
-  here_after = ap (stands_in s) c.is ∙ entry_stands s x
+  here_after = ap (option_and_then (stands_for s)) c.is ∙ entry_stands s x
 
   module _ (f : Option SlipState → ℕ) where
     by_slip_at : (t : Slip) (b : Bool) → same t s ≡ b
@@ -145,7 +145,7 @@ MayStand (Some y) x = Lasts y x
 
 onward_here : (s : Slip) (o : Option SlipState) (x : SlipState) (e : Entry) → MayStand o x → option_map (entry_of s) o ≡ Some e
     → (Some (entry_of s x) ≡ Some (record { depot = e.depot; pallets = e.pallets; state = x })) × Lasts e.state x
-onward_here s None x e may at = absurd (let z : ◌≡◌ {A = ℕ} 0 1 = cc in omega arith)
+onward_here s None x e may at = cc
 onward_here s (Some y) x e may at =
     let eq : entry_of s y ≡ e = cc in
     (ap (λ (h : Entry). Some (record { depot = h.depot; pallets = h.pallets; state = x })) eq, subst (λ (h : Entry). Lasts h.state x) eq may)

@@ -14,8 +14,8 @@ use Rattle.slips.specs.Moves.{row}
 use Rattle.slips.specs.Slips.{most_holds, slip_of}
 use Rattle.slips.proofs.Answered.{not_in_hand, not_pinned}
 use Rattle.slips.proofs.Tables.{stands}
-use Rattle.slip_runs.specs.declared.request.Act.{Act}
-use Rattle.slip_runs.specs.declared.request.Act.TheVariants.{Pin, Book, Release, TearUp}
+use Rattle.slips.specs.declared.moves.Act.{Act}
+use Rattle.slips.specs.declared.moves.Act.TheVariants.{Pin, Book, Release, TearUp}
 use Rattle.slip_runs.specs.declared.request.Request.{Request}
 use Rattle.slip_runs.specs.declared.request.Request.TheVariants.{Hold, PickUp, Give}
 use Rattle.slip_runs.specs.declared.request.Answer.{Answer}

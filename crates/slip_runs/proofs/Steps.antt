@@ -2,16 +2,17 @@
 -- A call of any kind that leaves holds and hand as they were is `idle`.
 use Rattle.std.proofs.Common.{◌≡◌, ℕ, zero, suc, ◌+◌, Bool, true, false, cond, eqb, List, [], ◌∷◌, ◌++◌, length, Some, None, count_by, Option, sym, refl, ap, ◌∙◌, add-zero, zero-add, arith, length-set}
 use Rattle.std.specs.List.{slice_get, remove, range_with_len}
+use Rattle.std.proofs.lemmas.Option.{get_or_from_slice_get, slice_get_within}
 use Rattle.std.proofs.lemmas.List.{length_push, length-append}
-use Rattle.std.proofs.lemmas.List.Sums.{sum_by-append, sum_by-cons, sum_by_push}
+use Rattle.std.proofs.lemmas.List.Sums.{sum_by-append, sum_by-remove, sum_by_push}
 use Rattle.slips.specs.declared.moves.SlipState.{SlipState}
 use Rattle.slips.specs.declared.moves.SlipState.TheVariants.{InHand, Pinned, Booked, Released}
 use Rattle.slips.specs.declared.slip.Slip.{Slip}
 use Rattle.slips.specs.Holds.{state_of, standing_of, entry_of}
 use Rattle.slips.specs.Owed.{owes, owed_at}
 use Rattle.slips.proofs.Owing.{owed_push, owed_move}
-use Rattle.slip_runs.specs.declared.request.Act.{Act}
-use Rattle.slip_runs.specs.declared.request.Act.TheVariants.{Pin, Book, Release, TearUp}
+use Rattle.slips.specs.declared.moves.Act.{Act}
+use Rattle.slips.specs.declared.moves.Act.TheVariants.{Pin, Book, Release, TearUp}
 use Rattle.slip_runs.specs.declared.request.Request.{Request}
 use Rattle.slip_runs.specs.declared.request.Answer.{Answer}
 use Rattle.slip_runs.specs.Deeds.{Deed, nothing, held, picked_up, spent, deed, same, copies, spends, is_book, is_release, is_tear_up, torn, bookings, releases, given, promises, promised, frees, freed}
@@ -93,16 +94,11 @@ joined w m u ds es p q =
     }
 
 count_by_removed : {A : Type 0} (q : A → Bool) (h : List A) (i : ℕ) (x : A) → slice_get h i ≡ Some x → count_by q (remove h i) + cond (q x) 1 0 ≡ count_by q h
-count_by_removed q [] i x e = absurd (let z : ◌≡◌ {A = ℕ} 0 1 = cc in omega arith)
-count_by_removed {A} q (y ∷ ys) zero x e =
-    let f : x ≡ y = cc in
-    omega (arith, sum_by-cons (λ a. cond (q a) 1 0) y ys, ap {B = ℕ} (λ (a : A). cond (q a) 1 0) f)
-count_by_removed q (y ∷ ys) (suc i) x e =
+count_by_removed {A} q h i x at =
     omega (
       arith,
-      count_by_removed q ys i x e,
-      sum_by-cons (λ a. cond (q a) 1 0) y ys,
-      sum_by-cons (λ a. cond (q a) 1 0) y (remove ys i),
+      sum_by-remove (λ a. cond (q a) 1 0) h i x (slice_get_within h i x at),
+      ap {B = ℕ} (λ (a : A). cond (q a) 1 0) (get_or_from_slice_get h i x x at),
     )
 
 cond_same : (b : Bool) (n : ℕ) → cond b n n ≡ n

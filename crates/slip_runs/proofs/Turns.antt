@@ -1,6 +1,7 @@
 -- What the calls on a table ensure are steps by the rules.
-use Rattle.std.proofs.Common.{◌≡◌, ℕ, zero, suc, List, [], ◌∷◌, ◌++◌, length, set, Some, Ok, Err, sym, refl, ap, ◌∙◌, subst, arith}
+use Rattle.std.proofs.Common.{◌≡◌, ℕ, zero, suc, List, [], ◌∷◌, ◌++◌, length, set, Some, Ok, Err, sym, refl, ap, ◌∙◌, subst}
 use Rattle.std.specs.List.{slice_get, insert, remove}
+use Rattle.slips.specs.declared.moves.SlipCall.TheVariants.{Spend}
 use Rattle.slips.specs.declared.moves.SlipState.TheVariants.{InHand, Pinned, Booked, Released}
 use Rattle.slips.specs.declared.refusal.Returned.{Returned}
 use Rattle.slips.specs.declared.refusal.SlipRefusal.{SlipRefusal}
@@ -10,13 +11,13 @@ use Rattle.slips.specs.declared.table.SlipTable.{SlipTable}
 use Rattle.slips.specs.Holds.{holds, entry_of, Held, PickedUp, Spent}
 use Rattle.slips.specs.Slips.{slip_of}
 use Rattle.slips.proofs.Answered.{back, taken, not_taken, torn, not_torn, picked, not_picked}
-use Rattle.slip_runs.specs.declared.request.Act.{Act}
-use Rattle.slip_runs.specs.declared.request.Act.TheVariants.{Pin, Book, Release, TearUp}
+use Rattle.slips.specs.declared.moves.Act.{Act}
+use Rattle.slips.specs.declared.moves.Act.TheVariants.{Pin, Book, Release, TearUp}
 use Rattle.slip_runs.specs.declared.request.Request.{Request}
 use Rattle.slip_runs.specs.declared.request.Request.TheVariants.{Hold, PickUp, Give}
 use Rattle.slip_runs.specs.declared.request.Answer.{Answer}
 use Rattle.slip_runs.specs.declared.request.Answer.TheVariants as answer
-use Rattle.slip_runs.specs.Rules.{World, Step, call_of}
+use Rattle.slip_runs.specs.Rules.{World, Step}
 
 abbrev made : List Entry → List Slip → World
 made hs h = record { holds = hs; hand = h }
@@ -30,7 +31,7 @@ rewritten {w} {m} {m'} {r} {a} {a'} s p q = subst (λ (v : World). Step w r a' v
 
 -- a slip that was taken from its place and put back there
 put_again : {A : Type 0} (h : List A) (i : ℕ) (x : A) → slice_get h i ≡ Some x → insert (remove h i) i x ≡ h
-put_again [] i x e = absurd (let z : ◌≡◌ {A = ℕ} 0 1 = cc in omega arith)
+put_again [] i x e = cc
 put_again {A} (y ∷ ys) zero x e = let f : x ≡ y = cc in ap (λ (z : A). z ∷ ys) f
 put_again {A} (y ∷ ys) (suc i) x e = ap (λ (r : List A). y ∷ r) (put_again ys i x e)
 
@@ -62,14 +63,14 @@ module _ (t t' : SlipTable) (h : List Slip) where
       rewritten (Step.not_pinned w.0) (ap answer.Refused (sym w.1)) (made_same (ap holds (sym w.2)) refl)
 
   module _ (i : ℕ) (s : Slip) (at : slice_get h i ≡ Some s) where
-    spend_rule : (a : Act) → Spent (call_of a) t s (Ok tt) t'
+    spend_rule : (a : Act) → Spent (Spend a) t s (Ok tt) t'
         → Step (made (holds t) h) (Give i a) (answer.Spent s.number s.depot s.pallets) (made (holds t') (remove h i))
     spend_rule Pin e = let w = taken t t' s Pinned e in rewritten (Step.pins at w.0) refl (made_same (sym w.1) refl)
     spend_rule Book e = let w = taken t t' s Booked e in rewritten (Step.books at w.0) refl (made_same (sym w.1) refl)
     spend_rule Release e = let w = taken t t' s Released e in rewritten (Step.releases at w.0) refl (made_same (sym w.1) refl)
     spend_rule TearUp e = let w = torn t t' s e in rewritten (Step.tears_up at w.0) refl (made_same (ap holds (sym w.1)) refl)
 
-    pub spend_step : (a : Act) (n d p : ℕ) (h' : List Slip) → Spent (call_of a) t s (Ok tt) t'
+    pub spend_step : (a : Act) (n d p : ℕ) (h' : List Slip) → Spent (Spend a) t s (Ok tt) t'
         → n ≡ s.number → d ≡ s.depot → p ≡ s.pallets → h' ≡ remove h i
         → Step (made (holds t) h) (Give i a) (answer.Spent n d p) (made (holds t') h')
     spend_step a n d p h' e number depot pallets rest =
@@ -83,8 +84,8 @@ module _ (t t' : SlipTable) (h : List Slip) where
           rewritten step (ap (λ (x : Returned). answer.Refused x.why) (sym e))
           (made_same (ap holds (sym f)) (sym (put ∙ ap (λ (x : Returned). insert (remove h i) i x.slip) e ∙ put_again h i s at)))
 
-      pub refuse_step : (a : Act) → Spent (call_of a) t s (Err b) t' → Step (made (holds t) h) (Give i a) (answer.Refused b.why) (made (holds t') h')
-      refuse_step Pin e = let w = not_taken t t' s Pinned b e in refused Pin (Step.not_in_hand at w.0 (λ f. let z : ◌≡◌ {A = ℕ} 0 1 = cc in omega arith)) w.1 w.2
-      refuse_step Book e = let w = not_taken t t' s Booked b e in refused Book (Step.not_in_hand at w.0 (λ f. let z : ◌≡◌ {A = ℕ} 0 1 = cc in omega arith)) w.1 w.2
-      refuse_step Release e = let w = not_taken t t' s Released b e in refused Release (Step.not_in_hand at w.0 (λ f. let z : ◌≡◌ {A = ℕ} 0 1 = cc in omega arith)) w.1 w.2
+      pub refuse_step : (a : Act) → Spent (Spend a) t s (Err b) t' → Step (made (holds t) h) (Give i a) (answer.Refused b.why) (made (holds t') h')
+      refuse_step Pin e = let w = not_taken t t' s Pinned b e in refused Pin (Step.not_in_hand at w.0 (λ f. cc)) w.1 w.2
+      refuse_step Book e = let w = not_taken t t' s Booked b e in refused Book (Step.not_in_hand at w.0 (λ f. cc)) w.1 w.2
+      refuse_step Release e = let w = not_taken t t' s Released b e in refused Release (Step.not_in_hand at w.0 (λ f. cc)) w.1 w.2
       refuse_step TearUp e = let w = not_torn t t' s b e in refused TearUp (Step.in_hand at w.0) w.1 w.2

@@ -1,10 +1,10 @@
 -- What requests did with slips, as their answers tell, and how often.
-use Rattle.std.specs.Prelude.{ℕ, Bool, true, false, cond, ◌&&◌, List, [], ◌∷◌, sum_by, count_by, ◌==◌, nat_eq}
+use Rattle.std.specs.Prelude.{ℕ, Bool, true, false, if◌then◌else◌, ◌&&◌, List, [], ◌∷◌, sum_by, count_by, ◌==◌, nat_eq}
 use Rattle.slips.specs.declared.slip.Slip.{Slip}
 use Rattle.slips.specs.Owed.{count_at}
 use Rattle.slips.specs.Slips.{slip_of}
-use Rattle.slip_runs.specs.declared.request.Act.{Act}
-use Rattle.slip_runs.specs.declared.request.Act.TheVariants.{Pin, Book, Release, TearUp}
+use Rattle.slips.specs.declared.moves.Act.{Act}
+use Rattle.slips.specs.declared.moves.Act.TheVariants.{Pin, Book, Release, TearUp}
 use Rattle.slip_runs.specs.declared.request.Request.{Request}
 use Rattle.slip_runs.specs.declared.request.Request.TheVariants.{Hold, PickUp, Give}
 use Rattle.slip_runs.specs.declared.request.Answer.{Answer}
@@ -112,7 +112,7 @@ abbrev pub frees : ℕ → Deed → ℕ
 frees d nothing = 0
 frees d (held s) = 0
 frees d (picked_up n) = 0
-frees d (spent a s) = cond (is_release a) (count_at d s.depot s.pallets) 0
+frees d (spent a s) = if is_release a then count_at d s.depot s.pallets else 0
 
 abbrev pub freed : ℕ → List Deed → ℕ
 freed d ds = sum_by (frees d) ds

@@ -1,6 +1,6 @@
 -- What holds of every list of slip calls.
-use Rattle.std.specs.Prelude.{◌≡◌, ℕ, ◌+◌, ◌≤◌, List, length, take, drop, Some, Option}
-use Rattle.std.specs.List.{slice_get, range_with_len}
+use Rattle.std.specs.Prelude.{◌≡◌, ℕ, ◌+◌, ◌≤◌, List, length, take, drop, Some, Option, slice_get}
+use Rattle.std.specs.List.{range_with_len}
 use Rattle.slips.specs.declared.moves.SlipState.{SlipState}
 use Rattle.slips.specs.declared.moves.SlipState.TheVariants.{InHand, Pinned, Booked, Released}
 use Rattle.slips.specs.declared.slip.Slip.{Slip}

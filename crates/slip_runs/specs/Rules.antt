@@ -1,9 +1,9 @@
 -- The rules of slip calls: what each request may find, what it is answered, and what it leaves.
-use Rattle.std.specs.Prelude.{◌≡◌, ℕ, ◌<◌, ◌≤◌, List, [], ◌∷◌, ◌++◌, length, Some, vec_items, Vec, ◌≢◌, slice_set}
-use Rattle.std.specs.List.{slice_get, remove}
+use Rattle.std.specs.Prelude.{◌≡◌, ℕ, ◌+◌, ◌-◌, ◌<◌, ◌≤◌, List, [], ◌∷◌, ◌++◌, length, Some, vec_items, vec_len, vec_capacity, Vec, ◌≢◌, slice_get, slice_set}
+use Rattle.std.specs.List.{remove}
 use Rattle.std.specs.declared.alloc.Global.{Global}
-use Rattle.slips.specs.declared.moves.SlipCall.{SlipCall}
-use Rattle.slips.specs.declared.moves.SlipCall.TheVariants as call
+use Rattle.slips.specs.declared.moves.Act.{Act}
+use Rattle.slips.specs.declared.moves.Act.TheVariants.{Pin, Book, Release, TearUp}
 use Rattle.slips.specs.declared.moves.SlipState.{SlipState}
 use Rattle.slips.specs.declared.moves.SlipState.TheVariants.{InHand, Pinned, Booked, Released}
 use Rattle.slips.specs.declared.refusal.SlipRefusal.TheVariants.{NoneLeft, NotAsNeeded}
@@ -13,19 +13,11 @@ use Rattle.slips.specs.declared.table.SlipTable.{SlipTable}
 use Rattle.slips.specs.Holds.{state_of, standing_of, entry_of}
 use Rattle.slips.specs.Holds as table
 use Rattle.slips.specs.Slips.{most_holds}
-use Rattle.slip_runs.specs.declared.request.Act.{Act}
-use Rattle.slip_runs.specs.declared.request.Act.TheVariants.{Pin, Book, Release, TearUp}
+use Rattle.slip_runs.specs.declared.desk.Desk.{Desk}
 use Rattle.slip_runs.specs.declared.request.Request.{Request}
 use Rattle.slip_runs.specs.declared.request.Request.TheVariants.{Hold, PickUp, Give}
 use Rattle.slip_runs.specs.declared.request.Answer.{Answer}
 use Rattle.slip_runs.specs.declared.request.Answer.TheVariants.{Held, PickedUp, Spent, Refused, NoSlip}
-
--- the call that an act makes
-abbrev pub call_of : Act → SlipCall
-call_of Pin = call.Pin
-call_of Book = call.Book
-call_of Release = call.Release
-call_of TearUp = call.TearUp
 
 -- the holds of a table, in the order of their numbers, and the slips of a hand
 pub record World : Type 0 where
@@ -34,6 +26,13 @@ pub record World : Type 0 where
 
 abbrev pub world_of : SlipTable → Vec Slip Global → World
 world_of t h = record { holds = table.holds t; hand = vec_items h }
+
+-- the same of a desk, and how many slips more its hand has places for
+abbrev pub world_at : Desk → World
+world_at d = world_of d.table d.hand
+
+abbrev pub spare_places : Desk → ℕ
+spare_places d = vec_capacity d.hand - vec_len d.hand
 
 -- a fresh table, and the slips handed in
 abbrev pub fresh : List Slip → World
@@ -76,6 +75,11 @@ pub data Step (w : World) : Request → Answer → World → Type 0 where
       → Step w (Give i TearUp) (Refused NotAsNeeded) w
   -- no place of the hand, no slip
   no_slip : {i : ℕ} {a : Act} → length w.hand ≤ i → Step w (Give i a) NoSlip w
+
+-- a request at a desk: a step by the rules, that takes at most one of the spare places
+pub record Turned (d : Desk) (r : Request) (a : Answer) (d' : Desk) : Type 0 where
+  pub step : Step (world_at d) r a (world_at d')
+  pub spare : spare_places d ≤ spare_places d' + 1
 
 -- a list of requests and their answers, from the first world to the last
 pub data Ran : World → List Request → List Answer → World → Type 0 where

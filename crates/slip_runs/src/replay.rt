@@ -3,8 +3,8 @@ ghost use Rattle.std.specs.Prelude.{◌≡◌, MatchResult};
 ghost use Rattle.slip_runs.specs.Laws.{Kept};
 ghost use Rattle.slip_runs.specs.Rules.{world_of};
 
+use crate::desk::Desk;
 use crate::request::{Answer, Request};
-use crate::turn::turn;
 use slips::slip::Slip;
 use slips::table::SlipTable;
 use std::alloc::Global;
@@ -32,10 +32,14 @@ pub fn replay(heap: Global, mut hand: Vec<Slip>, requests: &[Request]) -> Result
     let Ok(mut answers) = Vec::with_capacity(heap, requests.len()) else {
         return Err(NoMemory { hand });
     };
-    let mut table = SlipTable::new();
+    let mut desk = Desk {
+        table: SlipTable::new(),
+        hand,
+    };
     for request in requests {
-        answers.push_reserved(turn(&mut table, &mut hand, *request));
+        answers.push_reserved(desk.turn(*request));
     }
+    let Desk { table, hand } = desk;
     Ok(Outcome {
         table,
         hand,

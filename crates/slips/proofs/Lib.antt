@@ -1,4 +1,3 @@
 pub mod Answered
 pub mod Owing
-pub mod Places
 pub mod Tables

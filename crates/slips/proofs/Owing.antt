@@ -1,13 +1,12 @@
 -- What is owed, hold by hold and call by call.
-use Rattle.std.proofs.Common.{◌≡◌, ℕ, ◌+◌, ◌*◌, ◌<◌, ◌≤◌, Bool, true, false, cond, eqb, List, [], ◌∷◌, ◌++◌, length, get_or, take, set, Some, Ok, Err, Result, sym, refl, ap, ◌∙◌, subst, inl, inr, mul-le-mul_right, arith}
+use Rattle.std.proofs.Common.{◌≡◌, ℕ, ◌+◌, ◌*◌, ◌≤◌, List, [], ◌∷◌, ◌++◌, length, set, Some, Ok, Err, Result, sym, refl, ap, ◌∙◌, subst, inl, inr, mul-le-mul_right, arith}
 use Rattle.std.specs.List.{All}
-use Rattle.std.proofs.ByRecursion.{All-weaker, sum_by_le}
-use Rattle.std.proofs.lemmas.Option.{slice_get-get_or}
-use Rattle.std.proofs.lemmas.List.Elements.{recursion_from_All}
-use Rattle.std.proofs.lemmas.List.Sums.{sum_by_more, sum_by_push, sum_by-set}
+use Rattle.std.proofs.lemmas.Bool.Decides.{nat_tests}
+use Rattle.std.proofs.lemmas.List.Sums.{sum_by-le, sum_by_push, sum_by-set}
 use Rattle.slips.specs.declared.moves.Move.TheVariants.{To, Stay, Refused}
 use Rattle.slips.specs.declared.moves.SlipCall.{SlipCall}
-use Rattle.slips.specs.declared.moves.SlipCall.TheVariants.{Pin, PickUp, Book, Release, TearUp}
+use Rattle.slips.specs.declared.moves.Act.TheVariants.{Pin, Book, Release, TearUp}
+use Rattle.slips.specs.declared.moves.SlipCall.TheVariants.{PickUp, Spend}
 use Rattle.slips.specs.declared.moves.SlipState.{SlipState}
 use Rattle.slips.specs.declared.moves.SlipState.TheVariants.{InHand, Pinned, Booked, Released}
 use Rattle.slips.specs.declared.refusal.Returned.{Returned}
@@ -19,13 +18,8 @@ use Rattle.slips.specs.Holds.{holds, standing_of, entry_of, Held, Spent, SpentBy
 use Rattle.slips.specs.Moves.{row}
 use Rattle.slips.specs.Owed.{count_at, unless_released, owes, owed_at, OwedLaws}
 use Rattle.slips.proofs.Answered.{hand_ways, pinned_ways, taken, picked, not_picked}
-use Rattle.slips.proofs.Places.{nth_within}
+use Rattle.std.proofs.lemmas.Option.{get_or_from_slice_get, slice_get_within}
 use Rattle.slips.proofs.Tables.{holds_most, stands}
-
--- one hold more, in a loop over the holds
-pub sum_more : (d : ℕ) (hs : List Entry) (i : ℕ) (e : Entry) (sum more : ℕ) → i < length hs
-    → sum ≡ owed_at d (take i hs) → more ≡ owes d (get_or hs i e) → sum + more ≡ owed_at d (take (i + 1) hs)
-sum_more d hs i e sum more lt f g = omega (arith, sum_by_more (owes d) hs i e lt)
 
 -- a hold at the end adds what it owes
 pub owed_push : (d : ℕ) (hs : List Entry) (e : Entry) → owed_at d (hs ++ e ∷ []) ≡ owed_at d hs + owes d e
@@ -36,10 +30,9 @@ pub owed_move : (d : ℕ) (hs : List Entry) (s : Slip) (x y : SlipState) → sta
     → owed_at d (set hs s.number (entry_of s x)) + owes d (entry_of s y) ≡ owed_at d hs + owes d (entry_of s x)
 owed_move d hs s x y e =
     let at = stands hs s y e in
-    let lt = nth_within hs s.number (entry_of s y) at in
-    let got = slice_get-get_or hs s.number (entry_of s y) lt in
-    let here : get_or hs s.number (entry_of s y) ≡ entry_of s y = cc in
-    subst (λ (h : Entry). owed_at d (set hs s.number (entry_of s x)) + owes d h ≡ owed_at d hs + owes d (entry_of s x)) here
+    let lt = slice_get_within hs s.number (entry_of s y) at in
+    subst (λ (h : Entry). owed_at d (set hs s.number (entry_of s x)) + owes d h ≡ owed_at d hs + owes d (entry_of s x))
+    (get_or_from_slice_get hs s.number (entry_of s y) (entry_of s y) at)
     (sum_by-set (owes d) hs s.number (entry_of s x) (entry_of s y) lt)
 
 same_owed : (d : ℕ) (t t' : SlipTable) → t' ≡ t → owed_at d (holds t') ≡ owed_at d (holds t)
@@ -54,7 +47,7 @@ held_owed : (d e p : ℕ) (t t' : SlipTable) (s : Slip) → Held t e p (Ok s) t'
 held_owed d e p t t' s h =
     ap (owed_at d) h.2 ∙ owed_push d (holds t) (entry_of s InHand) ∙ ap (λ (u : Slip). owed_at d (holds t) + count_at d u.depot u.pallets) h.1
 
-released_owed : (d : ℕ) (t t' : SlipTable) (s : Slip) → Spent Release t s (Ok tt) t'
+released_owed : (d : ℕ) (t t' : SlipTable) (s : Slip) → Spent (Spend Release) t s (Ok tt) t'
     → owed_at d (holds t) ≡ owed_at d (holds t') + count_at d s.depot s.pallets
 released_owed d t t' s h =
     let w = taken t t' s Released h in
@@ -63,21 +56,21 @@ released_owed d t t' s h =
 -- a call that is accepted of a slip in hand, and leaves the hold owed
 hand_kept : (d : ℕ) (t t' : SlipTable) (s : Slip) (r : Result Unit Returned) (x : SlipState) → owes d (entry_of s x) ≡ owes d (entry_of s InHand)
     → SpentBy t s (row (To x) Refused Refused Refused Refused (standing_of (holds t) s)) r t' → owed_at d (holds t') ≡ owed_at d (holds t)
-hand_kept d t t' s r x same h = elim (hand_ways t t' s (To x) Refused r h) [
+hand_kept d t t' s r x same h = elim (hand_ways (λ m. SpentBy t s m r t') (To x) Refused (standing_of (holds t) s) h) [
   | inl w ↦ move_kept d (holds t) (holds t') s x InHand w.0 w.1.1 same
   | inr w ↦ same_owed d t t' w.1.1
 ]
 
-kept_owed : (d : ℕ) (c : SlipCall) (t t' : SlipTable) (s : Slip) (r : Result Unit Returned) → (c ≡ Release → ⊥) → Spent c t s r t'
+kept_owed : (d : ℕ) (c : SlipCall) (t t' : SlipTable) (s : Slip) (r : Result Unit Returned) → (c ≡ Spend Release → ⊥) → Spent c t s r t'
     → owed_at d (holds t') ≡ owed_at d (holds t)
-kept_owed d Pin t t' s r ne h = hand_kept d t t' s r Pinned refl h
-kept_owed d PickUp t t' s r ne h = elim (pinned_ways t t' s (To InHand) Refused r h) [
+kept_owed d (Spend Pin) t t' s r ne h = hand_kept d t t' s r Pinned refl h
+kept_owed d PickUp t t' s r ne h = elim (pinned_ways (λ m. SpentBy t s m r t') (To InHand) Refused (standing_of (holds t) s) h) [
   | inl w ↦ move_kept d (holds t) (holds t') s InHand Pinned w.0 w.1.1 refl
   | inr w ↦ same_owed d t t' w.1.1
 ]
-kept_owed d Book t t' s r ne h = hand_kept d t t' s r Booked refl h
-kept_owed d Release t t' s r ne h = absurd (ne refl)
-kept_owed d TearUp t t' s r ne h = elim (hand_ways t t' s Refused Stay r h) [
+kept_owed d (Spend Book) t t' s r ne h = hand_kept d t t' s r Booked refl h
+kept_owed d (Spend Release) t t' s r ne h = absurd (ne refl)
+kept_owed d (Spend TearUp) t t' s r ne h = elim (hand_ways (λ m. SpentBy t s m r t') Refused Stay (standing_of (holds t) s) h) [
   | inl w ↦ same_owed d t t' w.1.1
   | inr w ↦ same_owed d t t' w.1.1
 ]
@@ -88,10 +81,6 @@ picked_owed d n t t' (Ok s) h =
     move_kept d (holds t) (holds t') s InHand Pinned w.1 (w.2 ∙ ap (λ (k : ℕ). set (holds t) k (entry_of s InHand)) (sym w.0)) refl
 picked_owed d n t t' (Err why) h = same_owed d t t' (not_picked t t' n why h).2
 
-count_most : (b : Bool) (p : ℕ) → cond b p 0 ≤ p
-count_most true p = omega arith
-count_most false p = omega arith
-
 state_most : (x : SlipState) (q p : ℕ) → q ≤ p → unless_released x q ≤ p
 state_most InHand q p h = h
 state_most Pinned q p h = h
@@ -99,15 +88,12 @@ state_most Booked q p h = h
 state_most Released q p h = omega arith
 
 owes_most : (d p : ℕ) (e : Entry) → e.pallets ≤ p → owes d e ≤ p
-owes_most d p e h =
-    let c = count_most (eqb e.depot d) e.pallets in
-    state_most e.state (count_at d e.depot e.pallets) p (omega arith)
+owes_most d p e h = state_most e.state (count_at d e.depot e.pallets) p (grind (arith, nat_tests))
 
 -- holds of at most p pallets each
 pub owed_most : (d p : ℕ) (hs : List Entry) → length hs ≤ 512 → All (λ e. e.pallets ≤ p) hs → owed_at d hs ≤ 512 * p
 owed_most d p hs few each =
-    let each = recursion_from_All (λ e. e.pallets ≤ p) hs each in
-    let sum = sum_by_le (owes d) p hs (All-weaker (λ e. e.pallets ≤ p) (λ e. owes d e ≤ p) (owes_most d p) hs each) in
+    let sum = sum_by-le (owes d) p hs (λ k e lt. owes_most d p _ (each k e lt)) in
     omega (arith, mul-le-mul_right p few)
 
 pub owed_laws : OwedLaws

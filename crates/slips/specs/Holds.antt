@@ -1,7 +1,6 @@
 -- The holds of a table as a list, and what each call answers and leaves of them.
-use Rattle.std.specs.Prelude.{◌≡◌, ℕ, ◌<◌, ◌≤◌, cond, ◌&&◌, List, [], ◌∷◌, ◌++◌, length, take, Some, None, Ok, Err, Option, Result, ◌==◌, slice_set}
-use Rattle.std.specs.List.{slice_get}
-use Rattle.std.specs.Option.{option_map}
+use Rattle.std.specs.Prelude.{if◌then◌else◌, ◌≡◌, ℕ, ◌<◌, ◌≤◌, ◌&&◌, List, [], ◌∷◌, ◌++◌, length, take, Some, None, Ok, Err, Option, Result, ◌==◌, slice_get, slice_set}
+use Rattle.std.specs.Option.{option_map, option_and_then}
 use Rattle.slips.specs.declared.moves.Move.{Move}
 use Rattle.slips.specs.declared.moves.Move.TheVariants.{To, Stay, Refused}
 use Rattle.slips.specs.declared.moves.SlipCall.{SlipCall}
@@ -27,16 +26,11 @@ state_of hs n = option_map (λ e. e.state) (slice_get hs n)
 
 -- where a hold stands for a slip of its number: nowhere unless it has the slip's depot and pallets
 abbrev pub stands_for : Slip → Entry → Option SlipState
-stands_for s e = cond (s.depot == e.depot && s.pallets == e.pallets) (Some e.state) None
-
--- the same of what is found at its number
-abbrev pub stands_in : Slip → Option Entry → Option SlipState
-stands_in s None = None
-stands_in s (Some e) = stands_for s e
+stands_for s e = if s.depot == e.depot && s.pallets == e.pallets then Some e.state else None
 
 -- where a slip's hold stands: the holds must have all three of its numbers
 abbrev pub standing_of : List Entry → Slip → Option SlipState
-standing_of hs s = stands_in s (slice_get hs s.number)
+standing_of hs s = option_and_then (stands_for s) (slice_get hs s.number)
 
 -- the hold of a slip, standing so
 abbrev pub entry_of : Slip → SlipState → Entry

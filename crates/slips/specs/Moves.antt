@@ -3,7 +3,8 @@ use Rattle.std.specs.Prelude.{Some, None, Option}
 use Rattle.slips.specs.declared.moves.SlipState.{SlipState}
 use Rattle.slips.specs.declared.moves.SlipState.TheVariants.{InHand, Pinned, Booked, Released}
 use Rattle.slips.specs.declared.moves.SlipCall.{SlipCall}
-use Rattle.slips.specs.declared.moves.SlipCall.TheVariants.{Pin, PickUp, Book, Release, TearUp}
+use Rattle.slips.specs.declared.moves.SlipCall.TheVariants.{PickUp, Spend}
+use Rattle.slips.specs.declared.moves.Act.TheVariants.{Pin, Book, Release, TearUp}
 use Rattle.slips.specs.declared.moves.Move.{Move}
 use Rattle.slips.specs.declared.moves.Move.TheVariants.{To, Stay, Refused}
 
@@ -17,8 +18,8 @@ row h p b r n None = n
 
 -- what a call makes of a hold, by where it stands at present
 abbrev pub becomes : SlipCall → Option SlipState → Move
-becomes Pin = row (To Pinned) Refused Refused Refused Refused
 becomes PickUp = row Refused (To InHand) Refused Refused Refused
-becomes Book = row (To Booked) Refused Refused Refused Refused
-becomes Release = row (To Released) Refused Refused Refused Refused
-becomes TearUp = row Refused Stay Stay Stay Stay
+becomes (Spend Pin) = row (To Pinned) Refused Refused Refused Refused
+becomes (Spend Book) = row (To Booked) Refused Refused Refused Refused
+becomes (Spend Release) = row (To Released) Refused Refused Refused Refused
+becomes (Spend TearUp) = row Refused Stay Stay Stay Stay

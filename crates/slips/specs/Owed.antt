@@ -1,7 +1,8 @@
 -- What is owed at a depot, and how the calls change it.
-use Rattle.std.specs.Prelude.{◌≡◌, ℕ, ◌+◌, ◌*◌, ◌≤◌, cond, List, Ok, All, sum_by, Result, ◌==◌, ◌≢◌}
+use Rattle.std.specs.Prelude.{if◌then◌else◌, ◌≡◌, ℕ, ◌+◌, ◌*◌, ◌≤◌, List, Ok, All, sum_by, Result, ◌==◌, ◌≢◌}
 use Rattle.slips.specs.declared.moves.SlipCall.{SlipCall}
-use Rattle.slips.specs.declared.moves.SlipCall.TheVariants.{Release}
+use Rattle.slips.specs.declared.moves.SlipCall.TheVariants.{Spend}
+use Rattle.slips.specs.declared.moves.Act.TheVariants.{Release}
 use Rattle.slips.specs.declared.moves.SlipState.{SlipState}
 use Rattle.slips.specs.declared.moves.SlipState.TheVariants.{InHand, Pinned, Booked, Released}
 use Rattle.slips.specs.declared.refusal.Returned.{Returned}
@@ -14,7 +15,7 @@ use Rattle.slips.specs.Slips.{most_holds}
 
 -- pallets for the depot e, as they count at the depot d
 abbrev pub count_at : ℕ → ℕ → ℕ → ℕ
-count_at d e p = cond (e == d) p 0
+count_at d e p = if e == d then p else 0
 
 -- a released hold is owed no more
 abbrev pub unless_released : SlipState → ℕ → ℕ
@@ -37,10 +38,10 @@ pub record OwedLaws : Type 0 where
   pub held : (d e p : ℕ) (t t' : SlipTable) (s : Slip) → Held t e p (Ok s) t'
       → owed_at d (holds t') ≡ owed_at d (holds t) + count_at d e p
   -- an accepted release takes the slip's pallets away at its depot, and nothing elsewhere
-  pub released : (d : ℕ) (t t' : SlipTable) (s : Slip) → Spent Release t s (Ok tt) t'
+  pub released : (d : ℕ) (t t' : SlipTable) (s : Slip) → Spent (Spend Release) t s (Ok tt) t'
       → owed_at d (holds t) ≡ owed_at d (holds t') + count_at d s.depot s.pallets
   -- no other call with a slip changes it, nor does picking up
-  pub kept : (d : ℕ) (c : SlipCall) (t t' : SlipTable) (s : Slip) (r : Result Unit Returned) → (c ≢ Release) → Spent c t s r t'
+  pub kept : (d : ℕ) (c : SlipCall) (t t' : SlipTable) (s : Slip) (r : Result Unit Returned) → (c ≢ Spend Release) → Spent c t s r t'
       → owed_at d (holds t') ≡ owed_at d (holds t)
   pub picked : (d n : ℕ) (t t' : SlipTable) (r : Result Slip SlipRefusal) → PickedUp t n r t'
       → owed_at d (holds t') ≡ owed_at d (holds t)

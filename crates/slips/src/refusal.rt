@@ -5,14 +5,14 @@ ghost use Rattle.slips.specs.Refusals.{refusal_number};
 use crate::slip::Slip;
 
 // Why a call is refused: every number is given, or the hold does not stand as the call needs.
-#[derive(Clone, Copy)]
+#[derive(Clone, Copy, Debug, PartialEq, Eq)]
 pub enum SlipRefusal {
     NoneLeft,
     NotAsNeeded,
 }
 
 impl SlipRefusal {
-    // The number that the refusal is known by.
+    // The number that the refusal is known by. (By name: `u8::from(why)` would not say what the number is.)
     pub fn number(self) -> u8
         ensures { result ≡ refusal_number self }
     {

@@ -17,6 +17,7 @@ pub struct Entry {
 }
 
 // The holds accepted so far, in the order of their numbers: the entries below `count`.
+// An array with a count beside it, not a `Vec`: by a rule of the project the table has fixed memory and no heap.
 #[derive(Drop)]
 pub struct SlipTable {
     entries: [Entry; CAPACITY],

@@ -1,6 +1,6 @@
 // What stands at the reader's offset, and the step to the next record.
 ghost use Rattle.std.specs.Prelude.{◌≡◌, ◌+◌, ◌^◌, ◌<◌, length};
-ghost use Rattle.dayfile.specs.Reading.{Fresh, Moves, Next, OneReading, Shows, beginning, is_too_long, place_of, seen};
+ghost use Rattle.dayfile.specs.Reading.{Fresh, Next, OneReading, Within, beginning, here, is_too_long, place_of, seen};
 ghost use Rattle.dayfile.specs.Records.{view, well_named};
 
 use crate::fault::{FileFault, Position, RecordFault};
@@ -36,16 +36,13 @@ impl<'a> Reader<'a> {
 
     // The next record and the offset after it, or `None` at the end of the file.
     fn peek(&self) -> Result<Option<(Record<'a>, usize)>, FileFault>
-        ensures { Shows self.now result }
+        ensures stands { seen result ≡ here self.now }
+        ensures within { Within self.now.offset (length self.now.file.now) result }
     {
         if is_too_long(self.file) {
             return Err(FileFault::TooLong);
         }
-        match first(self.position(), &self.file[self.offset..]) {
-            Found::End => Ok(None),
-            Found::Whole(record, next) => Ok(Some((record, next))),
-            Found::Bad(fault) => Err(fault),
-        }
+        first(self.position(), &self.file[self.offset..])
     }
 
     // The next record, or `None` at the end of the file. At a fault and at the end the reader stays where it is.
@@ -71,31 +68,20 @@ fn is_too_long(file: &[u8]) -> bool
     file.len() > FILE_LIMIT
 }
 
-// What bytes begin with: nothing, a record and the offset after it, or a fault.
-enum Found<'a> {
-    End,
-    Whole(Record<'a>, usize),
-    Bad(FileFault),
-}
-
-// What the bytes `s`, which stand at the given position of the file, begin with.
-fn first<'a>(position: Position, s: &'a [u8]) -> Found<'a>
-    requires { position.offset + length s.now < 2 ^ 64 }
-    ensures begins { seen result ≡ beginning position s.now }
-    ensures moves { Moves position.offset (length s.now) result }
+// The record that the bytes, which stand at the given position of the file, begin with, and the offset after it.
+fn first<'a>(position: Position, bytes: &'a [u8]) -> Result<Option<(Record<'a>, usize)>, FileFault>
+    requires { position.offset + length bytes.now < 2 ^ 64 }
+    ensures begins { seen result ≡ beginning position bytes.now }
+    ensures within { Within position.offset (position.offset + length bytes.now) result }
 {
-    match s {
-        [] => Found::End,
-        [_] => Found::Bad(FileFault::CutShort(position)),
+    match bytes {
+        [] => Ok(None),
+        [_] => Err(FileFault::CutShort(position)),
         [a, b, fields @ ..] => {
-            let Some(mark) = Mark::of(*a, *b) else {
-                return Found::Bad(FileFault::UnknownMark(position));
-            };
+            let mark = Mark::try_from([*a, *b]).map_err(|_| FileFault::UnknownMark(position))?;
             let at = position.offset + 2;
-            let Some((record, size)) = of_fields(mark, at, fields) else {
-                return Found::Bad(FileFault::CutShort(position));
-            };
-            Found::Whole(record, at + size)
+            let (record, size) = of_fields(mark, at, fields).ok_or(FileFault::CutShort(position))?;
+            Ok(Some((record, at + size)))
         }
     }
 }

@@ -1,6 +1,7 @@
 // How a stored network is made, and how it answers.
 ghost use Rattle.std.specs.Prelude.{◌≡◌};
-ghost use Rattle.network.specs.Limits.{each, joins, fits, low_rank};
+ghost use Rattle.std.specs.List.{list_all};
+ghost use Rattle.network.specs.Limits.{fits, joins, low_rank};
 ghost use Rattle.network.specs.Stored.{Builds, stored_meaning, stored_proper};
 
 use super::{NetworkError, StoredNetwork};
@@ -16,61 +17,27 @@ const MOST_CAPACITY: u32 = 46075392;
 
 const MOST_RANKS: u16 = 1024;
 
-// Whether both ends of the arc are nodes.
-fn is_joined(arc: Arc, nodes: usize) -> bool
-    ensures { result ≡ joins nodes arc }
-{
-    (arc.tail as usize) < nodes && (arc.head as usize) < nodes
-}
-
+// Whether both ends of each arc are nodes.
 fn all_joined(nodes: usize, arcs: &[Arc]) -> bool
-    ensures { result ≡ each (joins nodes) arcs.now }
+    ensures { result ≡ list_all (joins nodes) arcs.now }
 {
-    for arc in arcs {
-        if !is_joined(*arc, nodes) {
-            return false;
-        }
-    }
-    true
+    arcs.iter().all(|arc| (arc.tail as usize) < nodes && (arc.head as usize) < nodes)
 }
 
-// Whether the arc's capacity is not too large.
-fn is_fitting(arc: Arc) -> bool
-    ensures { result ≡ fits arc }
-{
-    arc.capacity <= MOST_CAPACITY
-}
-
+// Whether no capacity is too large.
 fn all_fitting(arcs: &[Arc]) -> bool
-    ensures { result ≡ each fits arcs.now }
+    ensures { result ≡ list_all fits arcs.now }
 {
-    for arc in arcs {
-        if !is_fitting(*arc) {
-            return false;
-        }
-    }
-    true
+    arcs.iter().all(|arc| arc.capacity <= MOST_CAPACITY)
 }
 
-// Whether the rank, if there is one, is not too high.
-fn is_low(rank: Option<u16>) -> bool
-    ensures { result ≡ low_rank rank }
-{
-    match rank {
-        Some(rank) => rank < MOST_RANKS,
-        None => true,
-    }
-}
-
+// Whether no rank is too high.
 fn all_low(ranks: &[Option<u16>]) -> bool
-    ensures { result ≡ each low_rank ranks.now }
+    ensures { result ≡ list_all low_rank ranks.now }
 {
-    for rank in ranks {
-        if !is_low(*rank) {
-            return false;
-        }
-    }
-    true
+    ranks
+        .iter()
+        .all(|rank| rank.is_none_or(|rank| rank < MOST_RANKS))
 }
 
 impl StoredNetwork {
@@ -95,13 +62,13 @@ impl StoredNetwork {
         if ranks[source as usize].is_some() {
             return Err(NetworkError::SourceHasRank);
         }
-        if !all_joined(nodes, arcs.as_slice()) {
+        if !all_joined(nodes, &arcs) {
             return Err(NetworkError::EndIsNoNode);
         }
-        if !all_fitting(arcs.as_slice()) {
+        if !all_fitting(&arcs) {
             return Err(NetworkError::CapacityTooLarge);
         }
-        if !all_low(ranks.as_slice()) {
+        if !all_low(&ranks) {
             return Err(NetworkError::RankTooHigh);
         }
         Ok(StoredNetwork {

@@ -1,24 +1,36 @@
 // How the numbers of a text are read.
-ghost use Rattle.std.specs.Prelude.{◌≡◌, true, ◌+◌, ◌*◌, ◌-◌, ◌%◌, ◌^◌, drop, slice_get};
-ghost use Rattle.search_trial.specs.Numbers.{is_digit, left, numbers};
+ghost use Rattle.std.specs.Prelude.{◌≡◌, ◌+◌, ◌*◌, ◌-◌, ◌%◌, ◌^◌, ◌≤◌, length, not};
+ghost use Rattle.std.specs.Char.{is_ascii_digit};
+ghost use Rattle.std.specs.Iterator.{YieldsFirst, item_count};
+ghost use Rattle.std.specs.List.{prefix_len, fold};
+ghost use Rattle.search_trial.specs.Numbers.{left, numbers};
 
 use super::Numbers;
 
-// Whether the byte is a digit.
-fn is_digit(b: u8) -> bool
-    ensures { result ≡ is_digit b }
+// How many bytes stand before the first digit.
+fn gap_len(text: &[u8]) -> usize
+    ensures value { result ≡ prefix_len (λ b. not (is_ascii_digit b)) text.now }
+    ensures within { result ≤ length text.now }
 {
-    b >= b'0' && b <= b'9'
+    text.iter().take_while(|b| !b.is_ascii_digit()).count()
 }
 
-// The number that such a digit behind the number `so_far` makes, in 32 bits.
-fn with_digit(so_far: u32, digit: u8) -> u32
-    requires { is_digit digit ≡ true }
-    ensures { result ≡ (so_far * 10 + (digit - 48)) % 2 ^ 32 }
+// How many digits the text begins with.
+fn digits_len(text: &[u8]) -> usize
+    ensures value { result ≡ prefix_len is_ascii_digit text.now }
+    ensures within { result ≤ length text.now }
 {
-    so_far
-        .wrapping_mul(10)
-        .wrapping_add(u32::from(digit - b'0'))
+    text.iter().take_while(|b| b.is_ascii_digit()).count()
+}
+
+// The number that the digits write, in 32 bits.
+fn value(digits: &[u8]) -> u32
+    ensures { result ≡ fold (λ n d. (n * 10 + (d - 48)) % 2 ^ 32) 0 digits.now }
+{
+    digits.iter().fold(0u32, |n, d| {
+        n.wrapping_mul(10)
+            .wrapping_add(u32::from(d.saturating_sub(b'0')))
+    })
 }
 
 impl<'a> Numbers<'a> {
@@ -26,24 +38,25 @@ impl<'a> Numbers<'a> {
     pub fn new(text: &'a [u8]) -> Numbers<'a>
         ensures { left result ≡ numbers text.now }
     {
-        Numbers { text, at: 0 }
+        Numbers { rest: text }
     }
+}
 
-    // The next number, or `None` at the end of the text. What is no digit only parts the numbers.
-    pub fn next(&mut self) -> Option<u32>
-        ensures first { result ≡ slice_get (left self.old) 0 }
-        ensures rest { left self.new ≡ drop 1 (left self.old) }
-    {
-        let mut value = None;
-        for i in self.at..self.text.len() {
-            let b = self.text[i];
-            self.at = i + 1;
-            if is_digit(b) {
-                value = Some(with_digit(value.unwrap_or(0), b));
-            } else if value.is_some() {
-                return value;
-            }
+// What is no digit only parts the numbers.
+impl Iterator for Numbers<'_> {
+    type Item = u32;
+
+    ghost next_gives = { YieldsFirst left };
+
+    ghost remaining = { item_count left };
+
+    fn next(&mut self) -> Option<u32> {
+        let (_, text) = self.rest.split_at(gap_len(self.rest));
+        let (digits, rest) = text.split_at(digits_len(text));
+        if digits.is_empty() {
+            return None;
         }
-        value
+        self.rest = rest;
+        Some(value(digits))
     }
 }

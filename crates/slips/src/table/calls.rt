@@ -1,12 +1,13 @@
 // The calls on a table of holds.
-ghost use Rattle.std.specs.Prelude.{◌≡◌, ◌<◌, true, [], length, is_some, slice_set};
-ghost use Rattle.std.specs.List.{slice_get};
+ghost use Rattle.std.specs.Prelude.{◌≡◌, ◌<◌, ◌≤◌, [], length, IsSome, slice_get, slice_set};
 ghost use Rattle.slips.specs.declared.slip.Slip.{Slip};
-ghost use Rattle.slips.specs.declared.moves.SlipCall.TheVariants.{Pin, Book, Release, TearUp};
+ghost use Rattle.slips.specs.declared.moves.Act.TheVariants.{TearUp};
+ghost use Rattle.slips.specs.declared.moves.SlipCall.TheVariants.{Spend};
 ghost use Rattle.slips.specs.Holds.{holds, state_of, standing_of, stands_for, entry_of, Held, Spent, PickedUp};
 ghost use Rattle.slips.specs.Owed.{owes, owed_at, OwedLaws};
+ghost use Rattle.slips.specs.Slips.{most_holds};
 
-use crate::moves::{Move, SlipCall, SlipState, decide};
+use crate::moves::{Act, Move, SlipCall, SlipState, decide};
 use crate::refusal::{Returned, SlipRefusal};
 use crate::slip::Slip;
 use crate::table::{CAPACITY, Entry, SlipTable};
@@ -16,28 +17,25 @@ impl Entry {
     fn stands_for(self, slip: &Slip) -> Option<SlipState>
         ensures { result ≡ stands_for slip.now self }
     {
-        if slip.depot() == self.depot && slip.pallets() == self.pallets {
-            Some(self.state)
-        } else {
-            None
-        }
+        let agrees = slip.depot() == self.depot && slip.pallets() == self.pallets;
+        agrees.then_some(self.state)
     }
 
     // What the hold adds to what is owed at a depot.
     fn owes(self, depot: u8) -> u16
         ensures { result ≡ owes depot self }
     {
-        match self.state {
-            SlipState::InHand | SlipState::Pinned | SlipState::Booked if self.depot == depot => {
-                self.pallets
-            }
-            _ => 0,
+        if self.depot == depot && self.state != SlipState::Released {
+            self.pallets
+        } else {
+            0
         }
     }
 }
 
 impl SlipTable {
     // A table with no hold.
+    #[tactic(auto, unfolding(crate::specs::Holds::holds))]
     pub fn new() -> SlipTable
         ensures { holds result ≡ [] }
     {
@@ -53,13 +51,16 @@ impl SlipTable {
     }
 
     // The holds accepted so far.
+    #[tactic(auto, unfolding(crate::specs::Holds::holds))]
     fn listed(&self) -> &[Entry]
-        ensures { result.now ≡ holds self.now }
+        ensures holds { result.now ≡ holds self.now }
+        ensures few { length result.now ≤ most_holds }
     {
-        &self.entries[0..self.count as usize]
+        &self.entries[..self.count as usize]
     }
 
     // How many holds were accepted.
+    #[tactic(auto, using(crate::proofs::Tables::counted))]
     pub fn count(&self) -> u16
         ensures { result ≡ length (holds self.now) }
     {
@@ -77,20 +78,15 @@ impl SlipTable {
     pub fn state_of(&self, number: u16) -> Option<SlipState>
         ensures { result ≡ state_of (holds self.now) number }
     {
-        match self.find(number) {
-            Some(entry) => Some(entry.state),
-            None => None,
-        }
+        self.find(number).map(|entry| entry.state)
     }
 
     // Where the hold of a slip stands; `None` unless the table has all three of its numbers.
     pub fn standing(&self, slip: &Slip) -> Option<SlipState>
         ensures { result ≡ standing_of (holds self.now) slip.now }
     {
-        match self.find(slip.number()) {
-            Some(entry) => entry.stands_for(slip),
-            None => None,
-        }
+        self.find(slip.number())
+            .and_then(|entry| entry.stands_for(slip))
     }
 
     // Accepts a hold, and gives its slip: the next number, while one is left.
@@ -113,16 +109,17 @@ impl SlipTable {
     // Has the hold of a number stand so.
     fn stand(&mut self, number: u16, state: SlipState)
         requires { number < length (holds self.old) }
-        ensures { (s : Slip) → s.number ≡ number → is_some (standing_of (holds self.old) s) ≡ true → holds self.new ≡ slice_set (holds self.old) number (entry_of s state) }
+        ensures { (s : Slip) → s.number ≡ number → IsSome (standing_of (holds self.old) s) → holds self.new ≡ slice_set (holds self.old) number (entry_of s state) }
     {
         self.entries[number as usize].state = state;
     }
 
-    // A call that gives up a slip.
-    fn spend(&mut self, slip: Slip, call: SlipCall) -> Result<(), Returned>
-        ensures { Spent call self.old slip result self.new }
+    // Gives up a slip, to have this done with it. A tear-up leaves the table as it was.
+    pub fn spend(&mut self, slip: Slip, act: Act) -> Result<(), Returned>
+        ensures answer { Spent (Spend act) self.old slip result self.new }
+        ensures same { act ≡ TearUp → self.new ≡ self.old }
     {
-        match decide(self.standing(&slip), call) {
+        match decide(self.standing(&slip), SlipCall::Spend(act)) {
             Move::To(state) => {
                 self.stand(slip.end(), state);
                 Ok(())
@@ -136,35 +133,6 @@ impl SlipTable {
                 slip,
             }),
         }
-    }
-
-    // Pins up a slip in hand.
-    pub fn pin(&mut self, slip: Slip) -> Result<(), Returned>
-        ensures { Spent Pin self.old slip result self.new }
-    {
-        self.spend(slip, SlipCall::Pin)
-    }
-
-    // Books a hold in hand. It stays owed.
-    pub fn book(&mut self, slip: Slip) -> Result<(), Returned>
-        ensures { Spent Book self.old slip result self.new }
-    {
-        self.spend(slip, SlipCall::Book)
-    }
-
-    // Releases a hold in hand. It is owed no more.
-    pub fn release(&mut self, slip: Slip) -> Result<(), Returned>
-        ensures { Spent Release self.old slip result self.new }
-    {
-        self.spend(slip, SlipCall::Release)
-    }
-
-    // Ends a slip that the table does not have in hand, and leaves the table as it was.
-    pub fn tear_up(&mut self, slip: Slip) -> Result<(), Returned>
-        ensures answer { Spent TearUp self.old slip result self.new }
-        ensures same { self.new ≡ self.old }
-    {
-        self.spend(slip, SlipCall::TearUp)
     }
 
     // Takes down the slip of a pinned hold.
@@ -186,10 +154,9 @@ impl SlipTable {
         ensures value { result ≡ owed_at depot (holds self.now) }
         ensures laws { OwedLaws }
     {
-        let mut sum = 0;
-        for entry in self.listed() {
-            sum += u32::from(entry.owes(depot));
-        }
-        sum
+        self.listed()
+            .iter()
+            .map(|entry| u32::from(entry.owes(depot)))
+            .sum()
     }
 }

@@ -1,19 +1,12 @@
-use Rattle.std.proofs.Common.{◌+◌, ◌∙◌, arith}
+use Rattle.std.proofs.Common.{◌+◌, arith}
+use Rattle.flow.proofs.Pushing.{along_length}
 use Rattle.search.specs.Layouts.{laid}
-use Rattle.search.proofs.Gains.{gain_none, gain_on, gain_bound, round_less, round_last}
+use Rattle.search.proofs.Gains.{gain_on, gain_bound, round_less, round_last}
 use Rattle.search.proofs.Layouts.{laid_sound, source_width}
 use Rattle.search.proofs.rounds.saturate.Goals as goal
 
-pub rounds-init : goal.rounds-init
-rounds-init c = gain_none (laid c.args.map) c.args.k c.args.loads.now c.requires.flow c.requires.idle
-
-pub explore-requires : goal.explore-requires
-explore-requires c = record { loads = c.rounds.auto.loads ∙ c.requires.loads; visits = c.rounds.auto.visits ∙ c.requires.visits; slots = c.rounds.auto.slots ∙ c.requires.slots }
-
-pub drain-more-requires : goal.drain-more-requires
-drain-more-requires c =
-    let so = c.rounds.invariant in
-    record { loads = c.rounds.auto.loads ∙ c.requires.loads; flow = so.flow; idle = so.idle; tree = c.explore.ensures.tree; visits = c.explore.auto.visits ∙ c.rounds.auto.visits ∙ c.requires.visits }
+pub invariant_of-explore : goal.invariant_of-explore
+invariant_of-explore c = record { loaded = along_length _ (laid c.args.map).arcs c.rounds.loads c.rounds.invariant.flow.fits }
 
 pub overflow_add-total : goal.overflow_add-total
 overflow_add-total c =

@@ -1,24 +1,12 @@
-use Rattle.std.proofs.Common.{◌≡◌, ℕ, ◌+◌, ◌-◌, ◌∙◌, subst, inl, inr, arith}
+use Rattle.std.proofs.Common.{inl, inr, arith}
 use Rattle.std.proofs.lemmas.Bool.{ltb-true}
 use Rattle.search.specs.Layouts.{laid}
 use Rattle.search.specs.Visits.{reached, level}
-use Rattle.search.specs.Served.{Standing}
 use Rattle.search.proofs.Layouts.{laid_sound}
 use Rattle.search.proofs.Turn.{level_within}
-use Rattle.search.proofs.Phases.{standing_on, idle_later, note}
+use Rattle.search.proofs.Phases.{standing_on, note}
 use Rattle.search.proofs.serving.serve_ranks.Goals as goal
 use Rattle.search.proofs.serving.serve_ranks.Goals.{then-k-gt0, else-k-gt0}
-
-pub saturate-gained-requires : goal.saturate-gained-requires
-saturate-gained-requires c =
-    let so = c.loop-k.invariant in
-    record {
-      loads = c.loop-k.auto.loads ∙ c.requires.loads;
-      visits = c.loop-k.auto.visits ∙ c.requires.visits;
-      slots = c.loop-k.auto.slots ∙ c.requires.slots;
-      flow = so.flow;
-      idle = idle_later (laid c.args.map) (c.loop-k.k - 1) c.loop-k.k c.loop-k.loads (omega arith) so.idle;
-    }
 
 pub loop-k-preserved : goal.loop-k-preserved
 loop-k-preserved c =
@@ -30,8 +18,3 @@ loop-k-preserved c =
     c.stamp.ensures
     (note c.loop-k.figures c.if-k-gt0.figures c.loop-k.k c.saturate-gained.result (omega arith)
     (elim c.if-k-gt0.branch [ then-k-gt0 w ↦ inl (w.if-k-gt0.true, w.figures-is) | else-k-gt0 w ↦ inr (w.if-k-gt0.false, w.figures-is) ]))
-
-pub returns : goal.returns
-returns c =
-    let all : c.loop-k.k ≡ c.args.ranks + 1 = omega arith in
-    subst (λ (k : ℕ). Standing (laid c.args.map) k c.loop-k.loads c.loop-k.marks c.loop-k.figures) all c.loop-k.invariant

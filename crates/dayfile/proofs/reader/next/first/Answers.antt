@@ -1,19 +1,22 @@
-use Rattle.std.proofs.Common.{◌+◌, ◌<◌, ◌≤◌, length, Some, sym, ◌∙◌, subst, arith, length-drop, rules}
-use Rattle.dayfile.specs.Records.{Fielded, size}
-use Rattle.dayfile.proofs.Begin.{to_end, whole, short}
+use Rattle.std.proofs.Common.{◌≡◌, Some, Err, ap, ◌∙◌, rules}
+use Rattle.dayfile.specs.declared.fault.FileFault.TheVariants.{CutShort}
+use Rattle.dayfile.specs.Marks.{mark_of}
+use Rattle.dayfile.specs.Records.{byte}
+use Rattle.dayfile.specs.Reading.{seen}
+use Rattle.dayfile.proofs.Begin.{whole, short}
 use Rattle.dayfile.proofs.reader.next.first.Goals as goal
 
-pub returns-in_default-of_fields : goal.returns-in_default-of_fields
-returns-in_default-of_fields c =
-    let bs = c.args.s.now in
-    let two : 2 ≤ length bs = search rules in
-    let told = subst (λ fs. length fs < size c.in-Some.mark fs) (to_end bs 2) c.in_default-of_fields.ensures in
-    record { begins = short c.args.position bs _ two (sym c.in-Some.is ∙ c.of.ensures) told; moves = tt }
+pub returns-in_err-record-in-len2-up-clause-begins :
+    goal.returns-in_err-record-in-len2-up-clause-begins
+returns-in_err-record-in-len2-up-clause-begins c =
+    let bs = c.args.bytes.now in
+    let is : Some c.in_ok-mark-in-len2-up.mark ≡ mark_of (byte bs 0) (byte bs 1) = search rules in
+    let gives : c.from_residual-in_err-record-in-len2-up.result ≡ Err (CutShort c.args.position) = search rules in
+    ap seen gives ∙ short c.args.position bs _ (search rules) is _ c.of_fields.ensures c.in_err-record-in-len2-up.ensures.ok_part
 
-pub returns-in-Some-of_fields : goal.returns-in-Some-of_fields
-returns-in-Some-of_fields c =
-    let bs = c.args.s.now in
-    let two : 2 ≤ length bs = search rules in
-    let told = subst (λ fs. Fielded c.in-Some.mark (c.args.position.offset + 2) fs (Some (c.in-Some-of_fields.record, c.in-Some-of_fields.size))) (to_end bs 2) c.in-Some-of_fields.ensures in
-    let all = length-drop 2 bs in
-    record { begins = whole c.args.position bs _ two (sym c.in-Some.is ∙ c.of.ensures) _ _ told; moves = (omega arith, omega arith) }
+pub returns-in_ok-record-in-len2-up-clause-begins :
+    goal.returns-in_ok-record-in-len2-up-clause-begins
+returns-in_ok-record-in-len2-up-clause-begins c =
+    let bs = c.args.bytes.now in
+    let is : Some c.in_ok-mark-in-len2-up.mark ≡ mark_of (byte bs 0) (byte bs 1) = search rules in
+    whole c.args.position bs _ (search rules) is _ _ _ c.of_fields.ensures c.in_ok-record-in-len2-up.ensures.ok_part

@@ -1,0 +1,80 @@
+// How a search goes on from node to node.
+ghost use Rattle.std.specs.Prelude.{◌≡◌, [], ◌∷◌, length};
+ghost use Rattle.queue.specs.Items.{items, slot_count};
+ghost use Rattle.search.specs.Layouts.{laid};
+ghost use Rattle.search.specs.Visits.{Done, Found, Keeps, Paced, Searching};
+
+use super::Residual;
+use crate::end::End;
+use crate::visit::{Visit, clear, reach};
+use queue::Queue;
+
+impl Residual<'_> {
+    // Reaches what can be reached from the node along the arcs that have it at the given end.
+    fn scan(&self, end: End, node: u16, visits: &mut [Visit], waiting: &mut Queue<u16>)
+        requires slots { slot_count waiting.old ≡ (laid self.now.map).nodes }
+        requires so { Searching (laid self.now.map) self.now.loads.now visits.old (node ∷ items waiting.old) }
+        ensures so { Searching (laid self.now.map) self.now.loads.now visits.new (node ∷ items waiting.new) }
+        ensures done { Done (laid self.now.map) self.now.loads.now visits.new end node }
+        ensures keeps { Keeps visits.old visits.new }
+        ensures paced { Paced visits.old visits.new (items waiting.old) (items waiting.new) }
+        ensures slots { slot_count waiting.new ≡ slot_count waiting.old }
+    {
+        let level = visits[node as usize].level + 1;
+        let mut at = self.map.nodes[node as usize].first.at(end);
+        while let Some(e) = at {
+            let arc = self.map.arc(e);
+            if end.may_cross(arc, self.loads[e as usize]) {
+                let target = end.other().of(arc);
+                let visit = Visit {
+                    level,
+                    arc: e,
+                    side: end,
+                };
+                reach(visits, waiting, target, visit);
+            }
+            at = self.map.arcs[e as usize].next.at(end);
+        }
+    }
+
+    // Reaches what can be reached from the node along one arc.
+    fn expand(&self, node: u16, visits: &mut [Visit], waiting: &mut Queue<u16>)
+        requires slots { slot_count waiting.old ≡ (laid self.now.map).nodes }
+        requires so { Searching (laid self.now.map) self.now.loads.now visits.old (node ∷ items waiting.old) }
+        ensures so { Searching (laid self.now.map) self.now.loads.now visits.new (items waiting.new) }
+        ensures paced { Paced visits.old visits.new (items waiting.old) (items waiting.new) }
+        ensures slots { slot_count waiting.new ≡ slot_count waiting.old }
+    {
+        self.scan(End::Tail, node, visits, waiting);
+        self.scan(End::Head, node, visits, waiting);
+    }
+
+    // Goes on until no node waits.
+    fn flood(&self, visits: &mut [Visit], waiting: &mut Queue<u16>)
+        requires slots { slot_count waiting.old ≡ (laid self.now.map).nodes }
+        requires so { Searching (laid self.now.map) self.now.loads.now visits.old (items waiting.old) }
+        ensures { Searching (laid self.now.map) self.now.loads.now visits.new [] }
+    {
+        while let Some(node) = waiting.pop() {
+            self.expand(node, visits, waiting);
+        }
+    }
+
+    // Visits each node that can be reached from the source along arcs that may be crossed.
+    pub(crate) fn explore(&self, visits: &mut [Visit], slots: &mut [u16])
+        requires visits { length visits.old ≡ (laid self.now.map).nodes }
+        requires slots { length slots.old ≡ (laid self.now.map).nodes }
+        ensures { Found (laid self.now.map) self.now.loads.now visits.new }
+    {
+        let source = self.map.source;
+        clear(visits);
+        visits[source as usize] = Visit {
+            level: 1,
+            arc: 0,
+            side: End::Tail,
+        };
+        let mut waiting = Queue::new(slots);
+        waiting.push(source).unwrap();
+        self.flood(visits, &mut waiting);
+    }
+}
