@@ -15,7 +15,7 @@ pub enum Layer {
 }
 
 // Where a fault is met: the number of the record, from 1, and the offset at which the record begins.
-// Both are 0 for a fault of the whole file.
+// Both are 0 for a fault of the whole file, and no `Option`: so the program prints them.
 #[derive(Clone, Copy, Debug, PartialEq, Eq)]
 pub struct Position {
     pub nth: usize,

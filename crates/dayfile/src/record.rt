@@ -92,7 +92,8 @@ impl fmt::Display for Record<'_> {
     }
 }
 
-// The bytes after a mark, of which the first `taken` were read.
+// The bytes after a mark, of which the first `taken` were read. (Counted, and not the rest of the bytes alone: how many were
+// taken is the size of the record.)
 #[derive(Drop)]
 struct Fields<'a> {
     bytes: &'a [u8],

@@ -33,6 +33,7 @@ pub(crate) fn copy_arcs<N: Network>(net: &N, arcs: &mut [ArcEntry], nodes: &mut 
 {
     for (e, entry) in arcs.iter_mut().enumerate() {
         let arc = net.arc(e);
+        // As a cast, since it is proved to fit.
         let link = e as u16 + 1;
         let out = nodes[arc.tail as usize].first.relink(End::Tail, link);
         let back = nodes[arc.head as usize].first.relink(End::Head, link);

@@ -12,6 +12,7 @@ use crate::visit::Visit;
 use crate::way::Ways;
 
 // Sends more to the nodes of the ranks below k until none of them is reached, and says how much in all.
+// (How long visits and slots are is said of the lists handed in: both are written, so no struct holds them.)
 pub(crate) fn saturate(
     map: Layout,
     k: u16,

@@ -45,6 +45,7 @@ fn stamp(visits: &[Visit], marks: &mut [u16], mark: u16)
     requires { length visits.now ≡ length marks.old }
     ensures { (v : ℕ) → slice_index marks.new v ≡ (if reached visits.now v then mark else slice_index marks.old v) }
 {
+    // By number: under `zip` the loop's invariant knows of the marks only what the iterator's ghost members say.
     for (v, place) in marks.iter_mut().enumerate() {
         if visits[v].level > 0 {
             *place = mark;

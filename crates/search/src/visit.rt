@@ -16,18 +16,11 @@ pub struct Visit {
     pub side: End,
 }
 
-// Of a node that is not reached.
-const UNVISITED: Visit = Visit {
-    level: 0,
-    arc: 0,
-    side: End::Tail,
-};
-
 // Forgets each visit.
 pub(crate) fn clear(visits: &mut [Visit])
     ensures { (v : ℕ) → level visits.new v ≡ 0 }
 {
-    visits.fill(UNVISITED);
+    visits.fill(Visit::default());
 }
 
 // Notes and queues a node that was not reached yet.

@@ -9,8 +9,8 @@ mod push;
 mod serve;
 
 // A network, with the way from its source to each node that was reached.
-// The loads, which are written, are a parameter, and that they are a flow stands in each contract, for the same reason as at
-// `Residual`.
+// The loads, which are written, are a parameter, and that they are a flow under which only the ranks below k keep anything
+// stands in each contract, for the same reason as at `Residual`.
 #[derive(Clone, Copy)]
 pub(crate) struct Ways<'a> {
     pub(crate) map: Layout<'a>,

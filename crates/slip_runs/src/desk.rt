@@ -16,7 +16,8 @@ pub(crate) struct Desk {
 }
 
 impl Desk {
-    // Makes one request. The hand has a place for one slip more.
+    // Makes one request. The hand has a place for one slip more, which each request may use up; so it is said at each, and is no
+    // invariant of a desk.
     // By a match: each request has values of its own, which a table of functions could not hand on.
     pub(crate) fn turn(&mut self, request: Request) -> Answer
         requires { 0 < spare_places self.old }

@@ -11,7 +11,8 @@ pub enum Request {
 }
 
 // What happened: a hold was accepted with this number, a slip was picked up, the slip with these three numbers was
-// spent, the request was refused, or there is no slip at that place. (Three numbers and no slip: a slip cannot be copied.)
+// spent, the request was refused, or there is no slip at that place. (Three numbers and no slip, since a slip cannot be
+// copied; and no struct of them, since a hold, an entry and this answer have other ones of the three.)
 #[derive(Clone, Copy, Debug, PartialEq, Eq)]
 pub enum Answer {
     Held {

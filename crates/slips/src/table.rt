@@ -17,7 +17,8 @@ pub struct Entry {
 }
 
 // The holds accepted so far, in the order of their numbers: the entries below `count`.
-// An array with a count beside it, not a `Vec`: by a rule of the project the table has fixed memory and no heap.
+// An array with a count beside it, not a `Vec`: a rule of the project wants the table as a plain struct of 512 entries in fixed
+// memory, so that neither `new` nor `hold` can run out of it. (The kit's `ArrayVec` would bring a crate of its own for one list.)
 #[derive(Drop)]
 pub struct SlipTable {
     entries: [Entry; CAPACITY],

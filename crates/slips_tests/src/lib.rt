@@ -191,9 +191,12 @@ mod tests {
     fn every_cell(rt: HostRuntime) -> Result<(), Fail> {
         for (present, call, answer, state, owed) in &CELLS {
             let seen = attempt(*present, *call).ok_or("no slip")?;
-            assert_eq!(rt; seen.answer, *answer);
-            assert_eq!(rt; seen.state, *state);
-            assert_eq!(rt; seen.owed, *owed);
+            let expected = Seen {
+                answer: *answer,
+                state: *state,
+                owed: *owed,
+            };
+            assert_eq!(rt; seen, expected);
             if let Err(why) = seen.answer {
                 assert_eq!(rt; why.number(), 17);
             }

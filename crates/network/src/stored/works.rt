@@ -21,7 +21,7 @@ const MOST_RANKS: u16 = 1024;
 fn all_joined(nodes: usize, arcs: &[Arc]) -> bool
     ensures { result ≡ list_all (joins nodes) arcs.now }
 {
-    arcs.iter().all(|arc| (arc.tail as usize) < nodes && (arc.head as usize) < nodes)
+    arcs.iter().all(|arc| usize::from(arc.tail) < nodes && usize::from(arc.head) < nodes)
 }
 
 // Whether no capacity is too large.
@@ -56,10 +56,10 @@ impl StoredNetwork {
         if arcs.len() > MOST_ARCS {
             return Err(NetworkError::TooManyArcs);
         }
-        if source as usize >= nodes {
+        if usize::from(source) >= nodes {
             return Err(NetworkError::SourceIsNoNode);
         }
-        if ranks[source as usize].is_some() {
+        if ranks[usize::from(source)].is_some() {
             return Err(NetworkError::SourceHasRank);
         }
         if !all_joined(nodes, &arcs) {
@@ -89,7 +89,7 @@ impl Network for StoredNetwork {
     }
 
     fn source(&self) -> usize {
-        self.source as usize
+        usize::from(self.source)
     }
 
     fn arc_count(&self) -> usize {

@@ -1,4 +1,4 @@
-// Pushing along the way by which a node was reached.
+// Pushing along the way by which a node was reached. That it was reached is said of the node handed in, so at each function.
 ghost use Rattle.std.specs.Prelude.{◌≡◌, ◌-◌, ◌<◌};
 ghost use Rattle.flow.specs.Pushing.{Fitting};
 ghost use Rattle.search.specs.Layouts.{laid};

@@ -74,7 +74,8 @@ impl FromNumbers for Arc {
     }
 }
 
-// So many entries. (`take` would stop where the numbers end, and an entry that is missing counts.)
+// So many entries. (`take` would stop where the numbers end, and an entry that is missing counts. Tried: `(0..count).map(..)` with
+// `collect`, where both clauses stay open, since what the closure leaves in `numbers` has no name of its own.)
 pub(crate) fn read_list<E: FromNumbers + Drop>(
     heap: Global,
     count: u32,

@@ -19,8 +19,8 @@ pub enum TrialError {
 impl From<AllocError> for TrialError {
     ghost from_gives = { λ a e. e ≡ OutOfMemory a };
 
-    fn from(error: AllocError) -> TrialError {
-        TrialError::OutOfMemory(error)
+    fn from(memory: AllocError) -> TrialError {
+        TrialError::OutOfMemory(memory)
     }
 }
 

@@ -36,7 +36,7 @@ impl Trial {
             ranks,
             loads: vec![in heap; 0u32; count]?,
             marks: vec![in heap; 0u16; nodes]?,
-            figures: vec![in heap; 0u64; ranks as usize]?,
+            figures: vec![in heap; 0u64; usize::from(ranks)]?,
             arcs: vec![in heap; ArcEntry::default(); count]?,
             nodes: vec![in heap; NodeEntry::default(); nodes]?,
             visits: vec![in heap; Visit::default(); nodes]?,

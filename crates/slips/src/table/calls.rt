@@ -56,7 +56,7 @@ impl SlipTable {
         ensures holds { result.now ≡ holds self.now }
         ensures few { length result.now ≤ most_holds }
     {
-        &self.entries[..self.count as usize]
+        &self.entries[..usize::from(self.count)]
     }
 
     // How many holds were accepted.
@@ -71,7 +71,7 @@ impl SlipTable {
     fn find(&self, number: u16) -> Option<Entry>
         ensures { result ≡ slice_get (holds self.now) number }
     {
-        self.listed().get(number as usize).copied()
+        self.listed().get(usize::from(number)).copied()
     }
 
     // Where the hold of a number stands; `None` where the number was never given.
@@ -93,6 +93,7 @@ impl SlipTable {
     pub fn hold(&mut self, depot: u8, pallets: u16) -> Result<Slip, SlipRefusal>
         ensures { Held self.old depot pallets result self.new }
     {
+        // Numbers are cast where they index: `usize::from` is a call, and each index then known by an equation alone.
         let number = self.count;
         if number as usize >= CAPACITY {
             return Err(SlipRefusal::NoneLeft);
