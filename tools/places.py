@@ -96,6 +96,7 @@ def places(root):
                 shapes[shape(body)].append(where)
             for kind, _, fact in clauses:
                 fact = re.sub(r"\.(old|now|new|entry)\b", "", fact)
+                fact = re.sub(r"\bself\.(?=map|visits)", "", fact)
                 facts[fact].add(where)
             names = frozenset(re.findall(r"(\w+): [&\w]", head))
             for pair in [(a, b) for a in names for b in names if a < b]:
@@ -106,7 +107,7 @@ def places(root):
         for m in re.finditer(r"^(?:pub(?:\(crate\))? )?struct (\w+)[^;{]*\{", text, re.M):
             fields = re.findall(r"^ *(?:pub(?:\(crate\))? )?(\w+): (.*),$", block(text, m.start()), re.M)
             lists = [f for f, t in fields if re.match(r"(&'\w+ (mut )?)?\[|Vec<", t)]
-            sizes = [f for f, t in fields if t in ("usize", "u16") and f in ("len", "count", "head", "at", "offset")]
+            sizes = [f for f, t in fields if t in ("usize", "u16") and f in ("len", "count", "head", "at", "offset", "taken")]
             if len(lists) >= 2 or (lists and sizes):
                 out["6"].append(f"{path}: struct {m.group(1)} ({', '.join(lists + sizes)})")
     for group in shapes.values():
