@@ -5,5 +5,5 @@ pub mod Ranks
 pub mod Pushing
 pub mod Checked
 mod Growth
-mod Existence
+pub mod Existence
 mod Example

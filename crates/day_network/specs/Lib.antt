@@ -1,0 +1,2 @@
+pub mod DayNetwork
+pub mod DayTheory

@@ -1,0 +1,4 @@
+pub mod Lists
+pub mod Schedules
+pub mod Made
+pub mod Days
