@@ -46,7 +46,7 @@ impl Schedule<'_> {
 
 impl<R> DayNetwork<'_, R> {
     // Whether the place is live.
-    fn is_live(&self, yard: u8, period: u8) -> bool
+    pub fn is_live(&self, yard: u8, period: u8) -> bool
         ensures { result ≡ is_live (timetable_of self.now.schedule) yard period }
     {
         self.live.is_live(yard, period)

@@ -1,0 +1,9 @@
+pub mod Brought
+pub mod Cuts
+pub mod Fronts
+pub mod Loads
+pub mod Marks
+pub mod Networks
+pub mod Places
+pub mod Plans
+pub mod Sizes
