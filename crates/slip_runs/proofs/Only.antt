@@ -20,7 +20,8 @@ use Rattle.slip_runs.specs.declared.request.Request.{Request}
 use Rattle.slip_runs.specs.declared.request.Request.TheVariants.{Hold, PickUp, Give}
 use Rattle.slip_runs.specs.declared.request.Answer.{Answer}
 use Rattle.slip_runs.specs.declared.request.Answer.TheVariants.{Held, PickedUp, Spent, Refused, NoSlip}
-use Rattle.slip_runs.specs.Rules.{World, Step, Ran, gains, loses, moved}
+use Rattle.refusals.specs.Runs.{Ran}
+use Rattle.slip_runs.specs.Rules.{World, Step, gains, loses, moved}
 
 pub record Out : Type 0 where
   pub answer : Answer
@@ -99,9 +100,9 @@ one_step s t = sym (step_out s) ∙ step_out t
 abbrev pub Same : List Answer → List Answer → World → World → Type 0
 Same said said' u u' = (said ≡ said') × (u ≡ u')
 
-pub ran_one : {w u : World} {rs : List Request} {said : List Answer} → Ran w rs said u → (v u' : World) (said' : List Answer) → v ≡ w → Ran v rs said' u' → Same said said' u u'
+pub ran_one : {w u : World} {rs : List Request} {said : List Answer} → Ran Step w rs said u → (v u' : World) (said' : List Answer) → v ≡ w → Ran Step v rs said' u' → Same said said' u u'
 ran_one Ran.none v u' said' e Ran.none = (refl, sym e)
-ran_one (Ran.more {r} s p) v u' said' e (Ran.more {m = m'} {a = a'} {said = rest} t q) =
+ran_one (Ran.more {c = r} s p) v u' said' e (Ran.more {t = m'} {a = a'} {said = rest} t q) =
     let one = one_step s (subst (λ (x : World). Step x r a' m') e t) in
     let then = ran_one p m' u' rest (sym (ap (λ (o : Out). o.after) one)) q in
     (λ i. (one i).answer ∷ then.0 i, then.1)

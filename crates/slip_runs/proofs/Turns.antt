@@ -1,5 +1,5 @@
 -- What the calls on a table ensure are steps by the rules.
-use Rattle.std.proofs.Common.{◌≡◌, ℕ, zero, suc, List, [], ◌∷◌, ◌++◌, length, set, Some, Ok, Err, sym, refl, ap, ◌∙◌, subst}
+use Rattle.std.proofs.Common.{◌≡◌, ℕ, List, [], ◌∷◌, ◌++◌, length, set, Some, Ok, Err, sym, refl, ap, ◌∙◌, subst}
 use Rattle.std.specs.List.{slice_get, insert, remove}
 use Rattle.slips.specs.declared.moves.SlipCall.TheVariants.{Spend}
 use Rattle.slips.specs.declared.moves.SlipState.TheVariants.{InHand, Pinned, Booked, Released}
@@ -10,6 +10,7 @@ use Rattle.slips.specs.declared.table.Entry.{Entry}
 use Rattle.slips.specs.declared.table.SlipTable.{SlipTable}
 use Rattle.slips.specs.Holds.{holds, entry_of, Held, PickedUp, Spent}
 use Rattle.slips.specs.Slips.{slip_of}
+use Rattle.slips.proofs.Hands.{put_again}
 use Rattle.slips.proofs.Answered.{back, taken, not_taken, torn, not_torn, picked, not_picked}
 use Rattle.slips.specs.declared.moves.Act.{Act}
 use Rattle.slips.specs.declared.moves.Act.TheVariants.{Pin, Book, Release, TearUp}
@@ -28,12 +29,6 @@ made_same p q = λ i. record { holds = p i; hand = q i }
 -- a step, with its answer and the world after it written another way
 rewritten : {w m m' : World} {r : Request} {a a' : Answer} → Step w r a m → a ≡ a' → m ≡ m' → Step w r a' m'
 rewritten {w} {m} {m'} {r} {a} {a'} s p q = subst (λ (v : World). Step w r a' v) q (subst (λ (b : Answer). Step w r b m) p s)
-
--- a slip that was taken from its place and put back there
-put_again : {A : Type 0} (h : List A) (i : ℕ) (x : A) → slice_get h i ≡ Some x → insert (remove h i) i x ≡ h
-put_again [] i x e = cc
-put_again {A} (y ∷ ys) zero x e = let f : x ≡ y = cc in ap (λ (z : A). z ∷ ys) f
-put_again {A} (y ∷ ys) (suc i) x e = ap (λ (r : List A). y ∷ r) (put_again ys i x e)
 
 module _ (t t' : SlipTable) (h : List Slip) where
   pub hold_step : (d p : ℕ) (s : Slip) (n : ℕ) (h' : List Slip) → Held t d p (Ok s) t' → n ≡ s.number → h' ≡ h ++ s ∷ []

@@ -11,7 +11,8 @@ use Rattle.slips.specs.Owed.{owed_at}
 use Rattle.slip_runs.specs.declared.request.Request.{Request}
 use Rattle.slip_runs.specs.declared.request.Answer.{Answer}
 use Rattle.slip_runs.specs.Deeds.{Deed, deeds, copies, torn, bookings, releases, given, promised, freed}
-use Rattle.slip_runs.specs.Rules.{World, Ran, fresh}
+use Rattle.refusals.specs.Runs.{Ran}
+use Rattle.slip_runs.specs.Rules.{World, Step, fresh}
 
 -- 1 if a hold stands so, else 0
 abbrev pub in_hand_count : Option SlipState → ℕ
@@ -51,13 +52,13 @@ Onward before after = (n : ℕ) (e : Entry) → slice_get before n ≡ Some e
 -- the theorem: from a fresh table and a starting hand, requests and answers lead by the rules to the world u, and the
 -- laws hold at every moment
 pub record Kept (start : List Slip) (rs : List Request) (said : List Answer) (u : World) : Type 0 where
-  pub ran : Ran (fresh start) rs said u
+  pub ran : Ran Step (fresh start) rs said u
   -- the rules leave no choice: no other answers and no other world could be
-  pub only : (said' : List Answer) (u' : World) → Ran (fresh start) rs said' u' → (said ≡ said') × (u ≡ u')
+  pub only : (said' : List Answer) (u' : World) → Ran Step (fresh start) rs said' u' → (said ≡ said') × (u ≡ u')
   -- the world after the first k requests: they lead to it, and the others lead on from it
   pub at : ℕ → World
-  pub before : (k : ℕ) → Ran (fresh start) (take k rs) (take k said) (at k)
-  pub rest : (k : ℕ) → Ran (at k) (drop k rs) (drop k said) u
+  pub before : (k : ℕ) → Ran Step (fresh start) (take k rs) (take k said) (at k)
+  pub rest : (k : ℕ) → Ran Step (at k) (drop k rs) (drop k said) u
   -- the laws hold at every moment
   pub laws : (k : ℕ) → Laws start (deeds (take k rs) (take k said)) (at k)
   -- and from each moment to every later one

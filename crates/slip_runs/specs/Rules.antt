@@ -80,9 +80,3 @@ pub data Step (w : World) : Request → Answer → World → Type 0 where
 pub record Turned (d : Desk) (r : Request) (a : Answer) (d' : Desk) : Type 0 where
   pub step : Step (world_at d) r a (world_at d')
   pub spare : spare_places d ≤ spare_places d' + 1
-
--- a list of requests and their answers, from the first world to the last
-pub data Ran : World → List Request → List Answer → World → Type 0 where
-  none : {w : World} → Ran w [] [] w
-  more : {w m u : World} {r : Request} {a : Answer} {rs : List Request} {said : List Answer}
-      → Step w r a m → Ran m rs said u → Ran w (r ∷ rs) (a ∷ said) u

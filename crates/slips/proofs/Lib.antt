@@ -1,3 +1,4 @@
 pub mod Answered
 pub mod Owing
 pub mod Tables
+pub mod Hands

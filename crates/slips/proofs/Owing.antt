@@ -91,10 +91,11 @@ owes_most : (d p : ℕ) (e : Entry) → e.pallets ≤ p → owes d e ≤ p
 owes_most d p e h = state_most e.state (count_at d e.depot e.pallets) p (grind (arith, nat_tests))
 
 -- holds of at most p pallets each
+pub owed_at_most : (d p : ℕ) (hs : List Entry) → All (λ e. e.pallets ≤ p) hs → owed_at d hs ≤ length hs * p
+owed_at_most d p hs each = sum_by-le (owes d) p hs (λ k e lt. owes_most d p _ (each k e lt))
+
 pub owed_most : (d p : ℕ) (hs : List Entry) → length hs ≤ 512 → All (λ e. e.pallets ≤ p) hs → owed_at d hs ≤ 512 * p
-owed_most d p hs few each =
-    let sum = sum_by-le (owes d) p hs (λ k e lt. owes_most d p _ (each k e lt)) in
-    omega (arith, mul-le-mul_right p few)
+owed_most d p hs few each = omega (arith, mul-le-mul_right p few, owed_at_most d p hs each)
 
 pub owed_laws : OwedLaws
 owed_laws = record {
