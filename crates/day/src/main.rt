@@ -1,4 +1,4 @@
-// Lists the records of the day file that comes on standard input.
+// Performs the day of the day file that comes on standard input, and prints a line for each record.
 #![tactic(auto)]
 
 use lines::listing::listing;

@@ -1,5 +1,6 @@
 -- A file has one reading.
 use Rattle.std.proofs.Common.{◌≡◌, ◌+◌, ◌∷◌, refl, subst}
+use Rattle.dayfile.specs.Faults.{place}
 use Rattle.dayfile.specs.Reading.{Reads, ends, faulty, misnamed, goes, OneReading}
 
 pub one_reading_lem : OneReading
@@ -22,4 +23,4 @@ one_reading_lem file n p xs ys f g (goes {xs = us} x q d v s) (goes {xs = vs} y 
     let first : x ≡ y = cc in
     let next : r ≡ q = cc in
     let rest = one_reading_lem file (n + 1) q us vs f g s (subst (λ m. Reads file (n + 1) m vs g) next t) in
-    ((λ i. first i ∷ rest.0 i), rest.1)
+    ((λ i. (place n p, first i) ∷ rest.0 i), rest.1)

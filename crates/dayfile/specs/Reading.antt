@@ -39,17 +39,17 @@ is_too_long file = nat_lt 32768 (length file)
 abbrev pub stands : List ℕ → Position → Step
 stands file at = if is_too_long file then bad TooLong else beginning at (drop at.offset file)
 
--- The reading of a file from offset p on, where the n-th record would begin: the records there, and the fault that ends
--- them, if one does.
-pub data Reads (file : List ℕ) : ℕ → ℕ → List Rec → Option RecordFault → Type 0 where
+-- The reading of a file from offset p on, where the n-th record would begin: the records there, each with its position, and the
+-- fault that ends them, if one does.
+pub data Reads (file : List ℕ) : ℕ → ℕ → List (Position × Rec) → Option RecordFault → Type 0 where
   ends : {n p : ℕ} → stands file (place n p) ≡ end → Reads file n p [] None
   faulty : {n p : ℕ} (f : FileFault) → stands file (place n p) ≡ bad f → Reads file n p [] (Some (File f))
   misnamed : {n p : ℕ} (x : Rec) (q : ℕ) → stands file (place n p) ≡ got x q → well_named x ≡ false → Reads file n p [] (Some (BadName (place n p)))
-  goes : {n p : ℕ} {xs : List Rec} {f : Option RecordFault} (x : Rec) (q : ℕ) → stands file (place n p) ≡ got x q → well_named x ≡ true → Reads file (n + 1) q xs f → Reads file n p (x ∷ xs) f
+  goes : {n p : ℕ} {xs : List (Position × Rec)} {f : Option RecordFault} (x : Rec) (q : ℕ) → stands file (place n p) ≡ got x q → well_named x ≡ true → Reads file (n + 1) q xs f → Reads file n p ((place n p, x) ∷ xs) f
 
 -- a file has one reading
 abbrev pub OneReading : Type 0
-OneReading = (file : List ℕ) (n p : ℕ) (xs ys : List Rec) (f g : Option RecordFault) → Reads file n p xs f → Reads file n p ys g → (xs ≡ ys) × (f ≡ g)
+OneReading = (file : List ℕ) (n p : ℕ) (xs ys : List (Position × Rec)) (f g : Option RecordFault) → Reads file n p xs f → Reads file n p ys g → (xs ≡ ys) × (f ≡ g)
 
 -- Readers: at the start of a file, and where the next record would be.
 pub record Fresh (bytes : List ℕ) (s : Reader) : Type 0 where

@@ -33,6 +33,19 @@ view (code.Release s) = release s
 view (code.Quote r) = quote r
 view code.RunSheet = run_sheet
 
+-- the mark that a record begins with
+abbrev pub mark_of_record : Rec → Mark
+mark_of_record (opening h o) = Hz
+mark_of_record (yard_name y p n) = Yn
+mark_of_record (lane f t h c) = Ln
+mark_of_record (depot y) = Dp
+mark_of_record (departure l t c) = Sd
+mark_of_record (hold y n) = Hd
+mark_of_record (book s) = Bk
+mark_of_record (release s) = Rl
+mark_of_record (quote r) = Qt
+mark_of_record run_sheet = Rs
+
 -- one byte, and two bytes with the more significant first
 abbrev pub byte : List ℕ → ℕ → ℕ
 byte bs i = slice_index bs i

@@ -7,11 +7,12 @@ ghost use Rattle.dayfile.specs.Texts.{fault_text};
 use std::error::Error;
 use std::fmt;
 
-// A layer at which a fault is met: the bytes of the file, or a record by itself.
+// A layer at which a fault is met: the bytes of the file, a record by itself, or the board that a record asks something of.
 #[derive(Clone, Copy, Debug, PartialEq, Eq)]
 pub enum Layer {
     File,
     Record,
+    Board,
 }
 
 // Where a fault is met: the number of the record, from 1, and the offset at which the record begins.
@@ -30,11 +31,14 @@ pub enum FileFault {
     TooLong,
 }
 
-// What can be wrong with a record: its bytes, or the name in it.
+// What can be wrong with a record: its bytes; the name in it; the byte of a quote, which names no ranking; or the time at which it
+// comes, before the board is open or, for an opening, after.
 #[derive(Clone, Copy, Debug, PartialEq, Eq)]
 pub enum RecordFault {
     File(FileFault),
     BadName(Position),
+    NoRanking(Position),
+    OutOfTurn(Position),
 }
 
 impl FileFault {
@@ -68,6 +72,8 @@ impl RecordFault {
         match self {
             RecordFault::File(fault) => fault.number(),
             RecordFault::BadName(_) => 9,
+            RecordFault::NoRanking(_) => 11,
+            RecordFault::OutOfTurn(_) => 19,
         }
     }
 
@@ -77,7 +83,9 @@ impl RecordFault {
     {
         match self {
             RecordFault::File(_) => Layer::File,
-            RecordFault::BadName(_) => Layer::Record,
+            RecordFault::BadName(_) | RecordFault::NoRanking(_) | RecordFault::OutOfTurn(_) => {
+                Layer::Record
+            }
         }
     }
 
@@ -87,7 +95,9 @@ impl RecordFault {
     {
         match self {
             RecordFault::File(fault) => fault.position(),
-            RecordFault::BadName(position) => position,
+            RecordFault::BadName(position)
+            | RecordFault::NoRanking(position)
+            | RecordFault::OutOfTurn(position) => position,
         }
     }
 }
@@ -107,7 +117,7 @@ impl fmt::Display for RecordFault {
     fn fmt<W: fmt::Write>(&self, f: &mut fmt::Formatter<W>) -> fmt::Result {
         let number = self.number();
         let offset = self.position().offset;
-        write!(f, "?? no {number} at {offset}")
+        write!(f, "no {number} at {offset}")
     }
 }
 

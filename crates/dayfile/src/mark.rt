@@ -1,5 +1,8 @@
 // Marks: the two letters that each record begins with.
-ghost use Rattle.dayfile.specs.Marks.{ReadsMark};
+ghost use Rattle.std.specs.Prelude.{Some};
+ghost use Rattle.dayfile.specs.Marks.{ReadsMark, letters};
+
+use std::fmt;
 
 #[derive(Clone, Copy, Debug, PartialEq, Eq)]
 pub enum Mark {
@@ -38,6 +41,26 @@ impl TryFrom<[u8; 2]> for Mark {
             b"QT" => Ok(Mark::Qt),
             b"RS" => Ok(Mark::Rs),
             _ => Err(NoMark(letters)),
+        }
+    }
+}
+
+// A mark as its letters.
+impl fmt::Display for Mark {
+    ghost output = { λ m. Some (letters m) };
+
+    fn fmt<W: fmt::Write>(&self, f: &mut fmt::Formatter<W>) -> fmt::Result {
+        match *self {
+            Mark::Hz => write!(f, "HZ"),
+            Mark::Yn => write!(f, "YN"),
+            Mark::Ln => write!(f, "LN"),
+            Mark::Dp => write!(f, "DP"),
+            Mark::Sd => write!(f, "SD"),
+            Mark::Hd => write!(f, "HD"),
+            Mark::Bk => write!(f, "BK"),
+            Mark::Rl => write!(f, "RL"),
+            Mark::Qt => write!(f, "QT"),
+            Mark::Rs => write!(f, "RS"),
         }
     }
 }

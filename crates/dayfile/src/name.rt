@@ -27,7 +27,7 @@ fn is_printable(byte: u8) -> bool
 }
 
 // The bytes as text, if each is printable.
-pub(crate) fn text_of(bytes: &[u8]) -> Option<&str>
+pub fn text_of(bytes: &[u8]) -> Option<&str>
     ensures { MatchOption result
         (is_text bytes.now ≡ false)
         (λ s. (is_text bytes.now ≡ true) × (s.now ≡ bytes.now)) }

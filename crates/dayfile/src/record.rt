@@ -1,13 +1,10 @@
 // The records of a day file, and how each is made of the bytes after its mark.
-ghost use Rattle.std.specs.Prelude.{◌≡◌, ◌+◌, ◌^◌, ◌<◌, length, take, drop, Some, MatchOption};
+ghost use Rattle.std.specs.Prelude.{◌≡◌, ◌+◌, ◌^◌, ◌<◌, length, take, drop, MatchOption};
 ghost use Rattle.std.specs.Option.{option_map};
 ghost use Rattle.dayfile.specs.declared.mark.Mark.TheVariants.{Yn};
-ghost use Rattle.dayfile.specs.Records.{Fielded, Took, byte, view, word};
-ghost use Rattle.dayfile.specs.Texts.{record_text};
+ghost use Rattle.dayfile.specs.Records.{Fielded, Took, byte, mark_of_record, view, word};
 
 use crate::mark::Mark;
-use crate::name::text_of;
-use std::fmt;
 
 #[derive(Clone, Copy, Debug, PartialEq, Eq)]
 pub enum Record<'a> {
@@ -60,34 +57,22 @@ pub enum Record<'a> {
     RunSheet,
 }
 
-// A record as its mark and its fields. A name that is no text is shown as a question mark.
-impl fmt::Display for Record<'_> {
-    ghost output = { λ x. Some (record_text (view x)) };
-
-    fn fmt<W: fmt::Write>(&self, f: &mut fmt::Formatter<W>) -> fmt::Result {
-        match *self {
-            Record::Open { horizon, origin } => write!(f, "HZ {horizon} {origin}"),
-            Record::YardName { yard, name, .. } => {
-                let text = text_of(name).unwrap_or("?");
-                write!(f, "YN {yard} {text}")
-            }
-            Record::Lane {
-                from,
-                to,
-                transit,
-                capacity,
-            } => write!(f, "LN {from} {to} {transit} {capacity}"),
-            Record::Depot { yard } => write!(f, "DP {yard}"),
-            Record::Departure {
-                lane,
-                period,
-                capacity,
-            } => write!(f, "SD {lane} {period} {capacity}"),
-            Record::Hold { yard, pallets } => write!(f, "HD {yard} {pallets}"),
-            Record::Book { slip } => write!(f, "BK {slip}"),
-            Record::Release { slip } => write!(f, "RL {slip}"),
-            Record::Quote { ranking } => write!(f, "QT {ranking}"),
-            Record::RunSheet => write!(f, "RS"),
+impl Record<'_> {
+    // The mark that the record begins with.
+    pub fn mark(self) -> Mark
+        ensures { result ≡ mark_of_record (view self.entry) }
+    {
+        match self {
+            Record::Open { .. } => Mark::Hz,
+            Record::YardName { .. } => Mark::Yn,
+            Record::Lane { .. } => Mark::Ln,
+            Record::Depot { .. } => Mark::Dp,
+            Record::Departure { .. } => Mark::Sd,
+            Record::Hold { .. } => Mark::Hd,
+            Record::Book { .. } => Mark::Bk,
+            Record::Release { .. } => Mark::Rl,
+            Record::Quote { .. } => Mark::Qt,
+            Record::RunSheet => Mark::Rs,
         }
     }
 }

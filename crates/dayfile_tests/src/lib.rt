@@ -1,178 +1,264 @@
-// Tests of the day-file reader and of the listing, in a crate of their own, since a crate with tests is proved twice.
+// Tests of the day-file reader, in a crate of their own, since a crate with tests is proved twice.
 #![tactic(auto)]
 
 #[cfg(test)]
 mod tests {
     use dayfile::fault::{FileFault, Layer, Position, RecordFault};
     use dayfile::mark::{Mark, NoMark};
-    use dayfile::name::{is_name, is_text};
+    use dayfile::name::{is_name, is_text, text_of};
     use dayfile::reader::Reader;
     use dayfile::record::Record;
-    use lines::listing::listing;
-    use lines::text::record_line;
-    use std::alloc::Global;
-    use std::process::Abort;
     use std::test::*;
 
-    // A file and its listing.
-    struct Case {
+    // A file that is one record, and its mark.
+    struct Whole {
         file: &'static [u8],
-        text: &'static str,
+        mark: &'static str,
+        record: Record<'static>,
     }
 
     // One whole record of each mark.
-    const RECORDS: [Case; 12] = [
-        Case {
+    const RECORDS: [Whole; 12] = [
+        Whole {
             file: b"HZ\x2f\x1f",
-            text: "1 HZ 47 31\n",
+            mark: "HZ",
+            record: Record::Open {
+                horizon: 47,
+                origin: 31,
+            },
         },
-        Case {
+        Whole {
             file: b"YN\x04\x04Hull",
-            text: "1 YN 4 Hull\n",
+            mark: "YN",
+            record: Record::YardName {
+                yard: 4,
+                offset: 4,
+                name: b"Hull",
+            },
         },
-        Case {
+        Whole {
             file: b"YN\xff\x01 ",
-            text: "1 YN 255  \n",
+            mark: "YN",
+            record: Record::YardName {
+                yard: 255,
+                offset: 4,
+                name: b" ",
+            },
         },
-        Case {
+        Whole {
             file: b"LN\x00\x01\x02\x27\x0f",
-            text: "1 LN 0 1 2 9999\n",
+            mark: "LN",
+            record: Record::Lane {
+                from: 0,
+                to: 1,
+                transit: 2,
+                capacity: 9999,
+            },
         },
-        Case {
+        Whole {
             file: b"DP\x1f",
-            text: "1 DP 31\n",
+            mark: "DP",
+            record: Record::Depot { yard: 31 },
         },
-        Case {
+        Whole {
             file: b"SD\x5f\x2f\x01\x00",
-            text: "1 SD 95 47 256\n",
+            mark: "SD",
+            record: Record::Departure {
+                lane: 95,
+                period: 47,
+                capacity: 256,
+            },
         },
-        Case {
+        Whole {
             file: b"HD\x03\x00\x05",
-            text: "1 HD 3 5\n",
+            mark: "HD",
+            record: Record::Hold {
+                yard: 3,
+                pallets: 5,
+            },
         },
-        Case {
+        Whole {
             file: b"BK\x01\xff",
-            text: "1 BK 511\n",
+            mark: "BK",
+            record: Record::Book { slip: 511 },
         },
-        Case {
+        Whole {
             file: b"RL\xff\xff",
-            text: "1 RL 65535\n",
+            mark: "RL",
+            record: Record::Release { slip: 65535 },
         },
-        Case {
+        Whole {
             file: b"QT\x01",
-            text: "1 QT 1\n",
+            mark: "QT",
+            record: Record::Quote { ranking: 1 },
         },
-        Case {
+        Whole {
             file: b"RS",
-            text: "1 RS\n",
+            mark: "RS",
+            record: Record::RunSheet,
         },
-        Case {
+        Whole {
             file: b"YN\x00\x18abcdefghijklmnopqrstuvwx",
-            text: "1 YN 0 abcdefghijklmnopqrstuvwx\n",
+            mark: "YN",
+            record: Record::YardName {
+                yard: 0,
+                offset: 4,
+                name: b"abcdefghijklmnopqrstuvwx",
+            },
         },
     ];
 
-    // Files with faults, whole and torn ones, and what comes first.
-    const FAULTS: [Case; 18] = [
-        Case {
-            file: b"",
-            text: "",
-        },
-        Case {
+    // A file with a fault: how many records come before it, its number and the offset of its record.
+    struct Torn {
+        file: &'static [u8],
+        before: usize,
+        number: u8,
+        offset: usize,
+    }
+
+    const FAULTS: [Torn; 16] = [
+        Torn {
             file: b"H",
-            text: "1 ?? no 8 at 0\n",
+            before: 0,
+            number: 8,
+            offset: 0,
         },
-        Case {
+        Torn {
             file: b"X",
-            text: "1 ?? no 8 at 0\n",
+            before: 0,
+            number: 8,
+            offset: 0,
         },
-        Case {
+        Torn {
             file: b"XX",
-            text: "1 ?? no 7 at 0\n",
+            before: 0,
+            number: 7,
+            offset: 0,
         },
-        Case {
+        Torn {
             file: b"ZH\x03\x00",
-            text: "1 ?? no 7 at 0\n",
+            before: 0,
+            number: 7,
+            offset: 0,
         },
-        Case {
+        Torn {
             file: b"hz\x03\x00",
-            text: "1 ?? no 7 at 0\n",
+            before: 0,
+            number: 7,
+            offset: 0,
         },
-        Case {
+        Torn {
             file: b"RSR",
-            text: "1 RS\n2 ?? no 8 at 2\n",
+            before: 1,
+            number: 8,
+            offset: 2,
         },
-        Case {
+        Torn {
             file: b"RSRXRS",
-            text: "1 RS\n2 ?? no 7 at 2\n",
+            before: 1,
+            number: 7,
+            offset: 2,
         },
-        Case {
+        Torn {
             file: b"DP\x02LN\x00\x01\x01\x00",
-            text: "1 DP 2\n2 ?? no 8 at 3\n",
+            before: 1,
+            number: 8,
+            offset: 3,
         },
-        Case {
+        Torn {
             file: b"YN\x04\x05Hull",
-            text: "1 ?? no 8 at 0\n",
+            before: 0,
+            number: 8,
+            offset: 0,
         },
-        Case {
+        Torn {
             file: b"YN\x04\x00",
-            text: "1 ?? no 9 at 0\n",
+            before: 0,
+            number: 9,
+            offset: 0,
         },
-        Case {
+        Torn {
             file: b"YN\x04\x19abcdefghijklmnopqrstuvwxy",
-            text: "1 ?? no 9 at 0\n",
+            before: 0,
+            number: 9,
+            offset: 0,
         },
-        Case {
+        Torn {
             file: b"YN\x04\x19abcdefghijklmnopqrstuvwx",
-            text: "1 ?? no 8 at 0\n",
+            before: 0,
+            number: 8,
+            offset: 0,
         },
-        Case {
+        Torn {
             file: b"QT\x00YN\x04\x02a\x1f",
-            text: "1 QT 0\n2 ?? no 9 at 3\n",
+            before: 1,
+            number: 9,
+            offset: 3,
         },
-        Case {
+        Torn {
             file: b"QT\x00YN\x04\x02\x7fa",
-            text: "1 QT 0\n2 ?? no 9 at 3\n",
+            before: 1,
+            number: 9,
+            offset: 3,
         },
-        Case {
-            file: b"YN\x04\x02 ~RS",
-            text: "1 YN 4  ~\n2 RS\n",
-        },
-        Case {
+        Torn {
             file: b"YN\x04\x01\xffRS",
-            text: "1 ?? no 9 at 0\n",
+            before: 0,
+            number: 9,
+            offset: 0,
         },
-        Case {
+        Torn {
             file: b"YN\x04\x00XX",
-            text: "1 ?? no 9 at 0\n",
+            before: 0,
+            number: 9,
+            offset: 0,
         },
     ];
 
-    fn check_table(rt: &impl Abort, alloc: Global, cases: &[Case]) -> Result<(), Fail> {
-        for case in cases {
-            let text = listing(alloc, case.file)?;
-            assert_eq!(rt; text.as_str(), case.text);
+    #[test]
+    fn reads_each_mark(rt: HostRuntime) -> Result<(), Fail> {
+        for case in &RECORDS {
+            let mut reader = Reader::new(case.file);
+            assert_eq!(rt; reader.next()?, Some(case.record));
+            assert_eq!(rt; reader.next()?, None);
+            let mark = case.record.mark().to_string(rt.alloc())?;
+            assert_eq!(rt; mark.as_str(), case.mark);
         }
         Ok(())
     }
 
     #[test]
-    fn lists_each_mark(rt: HostRuntime) -> Result<(), Fail> {
-        check_table(&rt, rt.alloc(), &RECORDS)
+    fn reads_up_to_a_fault(rt: HostRuntime) -> Result<(), Fail> {
+        for case in &FAULTS {
+            let (before, fault) = first_fault(case.file);
+            let fault = fault.ok_or("a torn file was read whole")?;
+            assert_eq!(rt; before, case.before);
+            assert_eq!(rt; fault.number(), case.number);
+            assert_eq!(rt; fault.position().offset, case.offset);
+        }
+        Ok(())
     }
 
     #[test]
-    fn lists_up_to_a_fault(rt: HostRuntime) -> Result<(), Fail> {
-        check_table(&rt, rt.alloc(), &FAULTS)
+    fn reads_names_to_their_bounds(rt: HostRuntime) -> Result<(), Fail> {
+        assert_eq!(rt; first_fault(b""), (0, None));
+        assert_eq!(rt; first_fault(b"YN\x04\x02 ~RS"), (2, None));
+        Ok(())
     }
 
     // Every cut of every record is 8, whichever record it is.
     #[test]
     fn each_cut_is_eight(rt: HostRuntime) -> Result<(), Fail> {
+        let place = Position { nth: 1, offset: 0 };
         for case in &RECORDS {
             for cut in 1..case.file.len() {
-                let text = listing(rt.alloc(), &case.file[0..cut])?;
-                assert_eq!(rt; text.as_str(), "1 ?? no 8 at 0\n", "{}", case.text);
+                let fault = RecordFault::File(FileFault::CutShort(place));
+                assert_eq!(rt;
+                    first_fault(&case.file[0..cut]),
+                    (0, Some(fault)),
+                    "{}",
+                    case.mark
+                );
             }
         }
         Ok(())
@@ -216,8 +302,6 @@ mod tests {
         assert_eq!(rt; first_fault(file.as_slice()), (0, Some(fault)));
         assert_eq!(rt; fault.number(), 10);
         assert_eq!(rt; fault.position(), Position { nth: 0, offset: 0 });
-        let text = listing(rt.alloc(), file.as_slice())?;
-        assert_eq!(rt; text.as_str(), "0 ?? no 10 at 0\n");
         Ok(())
     }
 
@@ -262,16 +346,27 @@ mod tests {
         Ok(())
     }
 
-    // A record whose name was never checked is shown too.
+    // The faults that a record has by itself, with its number and its layer.
     #[test]
-    fn shows_a_name_that_is_no_text(rt: HostRuntime) -> Result<(), Fail> {
-        let name = Record::YardName {
-            yard: 3,
-            offset: 6,
-            name: b"a\xff",
-        };
-        let text = record_line(rt.alloc(), 7, name)?;
-        assert_eq!(rt; text.as_str(), "7 YN 3 ?");
+    fn faults_of_records(rt: HostRuntime) -> Result<(), Fail> {
+        let place = Position { nth: 3, offset: 9 };
+        for (fault, number, shown) in [
+            (RecordFault::BadName(place), 9, "no 9 at 9"),
+            (RecordFault::NoRanking(place), 11, "no 11 at 9"),
+            (RecordFault::OutOfTurn(place), 19, "no 19 at 9"),
+        ] {
+            assert_eq!(rt; fault.number(), number);
+            assert_eq!(rt; fault.layer(), Layer::Record);
+            assert_eq!(rt; fault.position(), place);
+            assert_eq!(rt; fault.to_string(rt.alloc())?.as_str(), shown);
+        }
+        Ok(())
+    }
+
+    #[test]
+    fn text_of_names(rt: HostRuntime) -> Result<(), Fail> {
+        assert_eq!(rt; text_of(b"Hull").ok_or("a text is none")?, "Hull");
+        assert_eq!(rt; text_of(b"a\xff"), None);
         Ok(())
     }
 

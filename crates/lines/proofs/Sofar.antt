@@ -1,43 +1,52 @@
--- What was listed so far, and what each answer of the reader adds to it.
-use Rattle.std.proofs.Common.{◌≡◌, ℕ, ◌+◌, ◌-◌, ◌<◌, List, [], ◌∷◌, ◌++◌, length, Some, None, Ok, Err, Option, sym, refl, ap, ◌∙◌, subst, append_assoc, append-nil, arith}
+-- What was printed so far, and what each answer of the reader adds to it.
+use Rattle.std.proofs.Common.{◌≡◌, ℕ, ◌+◌, ◌-◌, ◌<◌, List, [], ◌∷◌, ◌++◌, length, Some, None, Ok, Err, Option, Result, sym, refl, ap, ◌∙◌, subst, append_assoc, append-nil, arith}
+use Rattle.dayfile.specs.declared.fault.Position.{Position}
 use Rattle.dayfile.specs.declared.fault.RecordFault.{RecordFault}
 use Rattle.dayfile.specs.declared.fault.RecordFault.TheVariants.{File, BadName}
 use Rattle.dayfile.specs.declared.reader.Reader.{Reader}
 use Rattle.dayfile.specs.declared.record.Record.{Record}
 use Rattle.dayfile.specs.Faults.{place, record_number, record_position}
-use Rattle.dayfile.specs.Records.{Rec, view}
-use Rattle.dayfile.specs.Reading.{Step, end, got, bad, stands, here, Follows, Next, Fresh, Reads, ends, faulty, misnamed, goes}
+use Rattle.dayfile.specs.Records.{Rec, view, mark_of_record}
+use Rattle.dayfile.specs.Reading.{Step, end, got, bad, stands, here, place_of, Follows, Next, Fresh, Reads, ends, faulty, misnamed, goes}
+use Rattle.session.specs.declared.fault.DayFault.{DayFault}
+use Rattle.session.specs.Days.{Day, beginning}
+use Rattle.session.specs.Performing.{Turn, Performs, Runs, over, on}
+use Rattle.session.specs.Replies.{Answer}
 use Rattle.lines.specs.Lines.{record_line, fault_line}
 use Rattle.lines.specs.Listing.{Lists, lines_of, ended}
 
 abbrev pub line_of_fault : RecordFault → List ℕ
 line_of_fault f = fault_line (record_number f) (record_position f)
 
--- Whatever the rest of the file reads as, its lines after those that are out already list the whole file.
-pub record Sofar (file : List ℕ) (s : Reader) (out : List ℕ) : Type 0 where
+-- Whatever the rest of the file reads as, and however the day goes on over it, its lines after those that are out are those of the
+-- whole file.
+pub record Sofar (file : List ℕ) (s : Reader) (d : Day) (out : List ℕ) : Type 0 where
   pub bytes : s.file.now ≡ file
-  pub rest : (xs : List Rec) (f : Option RecordFault) → Reads file (s.count + 1) s.offset xs f → Lists file (out ++ lines_of (s.count + 1) xs f)
+  pub rest : (xs : List (Position × Rec)) (ts : List Turn) (f : Option RecordFault) → Reads file (s.count + 1) s.offset xs f → Runs d xs ts
+      → Lists file (out ++ lines_of ts f)
 
-pub start : (file : List ℕ) (s : Reader) (out : List ℕ) → Fresh file s → out ≡ [] → Sofar file s out
-start file s out fresh none = record {
+pub start : (file : List ℕ) (s : Reader) (d : Day) (out : List ℕ) → Fresh file s → d ≡ beginning → out ≡ [] → Sofar file s d out
+start file s d out fresh begun none = record {
   bytes = fresh.file;
   rest =
-      λ xs f r.
+      λ xs ts f r t.
       let first : s.count + 1 ≡ 1 = omega (arith, fresh.count) in
       record {
         records = xs;
         fault = f;
+        turns = ts;
         reads = subst (λ n. Reads file n 0 xs f) first (subst (λ p. Reads file (s.count + 1) p xs f) fresh.offset r);
-        lines = λ i. none i ++ lines_of (first i) xs f;
+        runs = subst (λ (e : Day). Runs e xs ts) begun t;
+        lines = λ i. none i ++ lines_of ts f;
       };
 }
 
-module _ (file : List ℕ) (s t : Reader) (out : List ℕ) (so : Sofar file s out) where
+module _ (file : List ℕ) (s t : Reader) (d : Day) (out : List ℕ) (so : Sofar file s d out) where
   stands_at : (k : Step) → here s ≡ k → stands file (place (s.count + 1) s.offset) ≡ k
   stands_at k e = ap (λ b. stands b (place (s.count + 1) s.offset)) (sym so.bytes) ∙ e
 
   done' : (k : Step) → here s ≡ k → Follows k s (Ok None) t → Lists file out
-  done' end e h = subst (Lists file) (append-nil out) (so.rest [] None (ends (stands_at end e)))
+  done' end e h = subst (Lists file) (append-nil out) (so.rest [] [] None (ends (stands_at end e)) over)
   done' (got x q) e h = absurd h
   done' (bad f) e h = absurd (cc)
 
@@ -47,32 +56,39 @@ module _ (file : List ℕ) (s t : Reader) (out : List ℕ) (so : Sofar file s ou
   stopped' : (k : Step) → here s ≡ k → (f : RecordFault) → Follows k s (Err f) t → Lists file (out ++ ended (line_of_fault f))
   stopped' end e f h = absurd (cc)
   stopped' (got x q) e f h =
-      subst (λ g. Lists file (out ++ ended (line_of_fault g))) (sym h.1) (so.rest [] (Some (BadName (place (s.count + 1) s.offset))) (misnamed x q (stands_at (got x q) e) h.0))
+      subst (λ g. Lists file (out ++ ended (line_of_fault g))) (sym h.1)
+      (so.rest [] [] (Some (BadName (place (s.count + 1) s.offset))) (misnamed x q (stands_at (got x q) e) h.0) over)
   stopped' (bad g) e f h =
       let d = h.0 in
       let same : f ≡ File g = cc in
-      subst (λ r. Lists file (out ++ ended (line_of_fault r))) (sym same) (so.rest [] (Some (File g)) (faulty g (stands_at (bad g) e)))
+      subst (λ r. Lists file (out ++ ended (line_of_fault r))) (sym same) (so.rest [] [] (Some (File g)) (faulty g (stands_at (bad g) e)) over)
 
   pub stopped : (f : RecordFault) → Next s (Err f) t → Lists file (out ++ ended (line_of_fault f))
   stopped f h = stopped' (here s) refl f h
 
-  more' : (k : Step) → here s ≡ k → (y : Record) → Follows k s (Ok (Some y)) t → Sofar file t (out ++ ended (record_line (s.count + 1) (view y)))
-  more' end e y h = absurd (cc)
-  more' (got x q) e y h =
+  -- the line of the record that the reader gave
+  abbrev line : Rec → Result Answer DayFault → List ℕ
+  line x r = record_line (s.count + 1) (mark_of_record x) r
+
+  more' : (k : Step) → here s ≡ k → (y : Record) (r : Result Answer DayFault) (e : Day) → Follows k s (Ok (Some y)) t → Performs d (view y) (place_of s) r e
+      → Sofar file t e (out ++ ended (line (view y) r))
+  more' end at y r e h p = absurd (cc)
+  more' (got x q) at y r e h p =
       let next : t.count + 1 ≡ s.count + 1 + 1 = omega (arith, h.2.count) in
       record {
         bytes = h.2.file ∙ so.bytes;
         rest =
-            λ xs f r.
-            let from = subst (λ n. Reads file n q xs f) next (subst (λ p. Reads file (t.count + 1) p xs f) h.2.offset r) in
-            let line = λ (z : Rec). ended (record_line (s.count + 1) z) in
-            let same = append_assoc out (line (view y)) (lines_of (t.count + 1) xs f) ∙ (λ i. out ++ (line (h.1 i) ++ lines_of (next i) xs f)) in
-            subst (Lists file) (sym same) (so.rest (x ∷ xs) f (goes x q (stands_at (got x q) e) h.0 from));
+            λ xs ts f reads runs.
+            let from = subst (λ n. Reads file n q xs f) next (subst (λ p. Reads file (t.count + 1) p xs f) h.2.offset reads) in
+            let performs = subst (λ (z : Rec). Performs d z (place_of s) r e) h.1 p in
+            let same = append_assoc out (ended (line (view y) r)) (lines_of ts f) ∙ (λ i. out ++ (ended (line (h.1 i) r) ++ lines_of ts f)) in
+            subst (Lists file) (sym same) (so.rest ((place_of s, x) ∷ xs) (record { at = place_of s; entry = x; answer = r } ∷ ts) f (goes x q (stands_at (got x q) at) h.0 from) (on performs runs));
       }
-  more' (bad f) e y h = absurd (cc)
+  more' (bad f) at y r e h p = absurd (cc)
 
-  pub more : (y : Record) → Next s (Ok (Some y)) t → Sofar file t (out ++ ended (record_line (s.count + 1) (view y)))
-  more y h = more' (here s) refl y h
+  pub more : (y : Record) (r : Result Answer DayFault) (e : Day) → Next s (Ok (Some y)) t → Performs d (view y) (place_of s) r e
+      → Sofar file t e (out ++ ended (record_line (s.count + 1) (mark_of_record (view y)) r))
+  more y r e h p = more' (here s) refl y r e h p
 
   counts : (k : Step) (y : Record) → Follows k s (Ok (Some y)) t → t.count ≡ s.count + 1
   counts end y h = absurd (cc)

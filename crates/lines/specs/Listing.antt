@@ -1,36 +1,51 @@
--- The listing of a whole day file.
+-- The lines of a whole day.
 use Rattle.std.specs.Prelude.{◌≡◌, ⊤, ℕ, ◌+◌, List, [], ◌∷◌, ◌++◌, Some, None, Ok, Err, string_bytes, Option, Result, String}
-use Rattle.dayfile.specs.declared.fault.RecordFault.{RecordFault}
-use Rattle.dayfile.specs.Faults.{record_number, record_position}
-use Rattle.dayfile.specs.Records.{Rec, view}
 use Rattle.std.specs.declared.alloc.Global.{Global}
+use Rattle.dayfile.specs.declared.fault.Position.{Position}
+use Rattle.dayfile.specs.declared.fault.RecordFault.{RecordFault}
 use Rattle.dayfile.specs.declared.reader.Reader.{Reader}
 use Rattle.dayfile.specs.declared.record.Record.{Record as Entry}
-use Rattle.dayfile.specs.Reading.{Reads, Next}
-use Rattle.lines.specs.declared.fault.DayFault.{DayFault}
-use Rattle.lines.specs.declared.fault.DayFault.TheVariants.{Record, Memory}
+use Rattle.dayfile.specs.Faults.{record_number, record_position}
+use Rattle.dayfile.specs.Records.{Rec, view, mark_of_record}
+use Rattle.dayfile.specs.Reading.{Reads, Next, place_of}
+use Rattle.session.specs.declared.fault.DayFault.{DayFault}
+use Rattle.session.specs.Days.{Day, beginning}
+use Rattle.session.specs.Performing.{Turn, Performs, Runs}
+use Rattle.session.specs.Replies.{Answer}
+use Rattle.lines.specs.declared.ending.Ending.{Ending}
+use Rattle.lines.specs.declared.ending.Ending.TheVariants.{Fault, Memory}
 use Rattle.lines.specs.Lines.{record_line, fault_line}
 
 -- a line with the line feed that ends it
 abbrev pub ended : List ℕ → List ℕ
 ended l = l ++ (10 ∷ [])
 
--- a line for each record, of which the first is the n-th, and one for the fault, if there is one
-abbrev pub lines_of : ℕ → List Rec → Option RecordFault → List ℕ
-lines_of n [] None = []
-lines_of n [] (Some f) = ended (fault_line (record_number f) (record_position f))
-lines_of n (x ∷ xs) f = ended (record_line n x) ++ lines_of (n + 1) xs f
+-- the line of a turn
+abbrev pub turn_line : Turn → List ℕ
+turn_line t = record_line t.at.nth (mark_of_record t.entry) t.answer
 
--- The text lists the file: it has the lines of the file's reading.
+-- a line for each turn, and one for the fault that ends the reading, if there is one
+abbrev pub lines_of : List Turn → Option RecordFault → List ℕ
+lines_of [] None = []
+lines_of [] (Some f) = ended (fault_line (record_number f) (record_position f))
+lines_of (t ∷ ts) f = ended (turn_line t) ++ lines_of ts f
+
+-- The text is that of the file's day: the records of the file's reading are performed in their order, from the beginning of a day,
+-- and the text has the lines of these turns and of the reading's fault.
 pub record Lists (file text : List ℕ) : Type 0 where
-  pub records : List Rec
+  pub records : List (Position × Rec)
   pub fault : Option RecordFault
+  pub turns : List Turn
   pub reads : Reads file 1 0 records fault
-  pub lines : text ≡ lines_of 1 records fault
+  pub runs : Runs beginning records turns
+  pub lines : text ≡ lines_of turns fault
 
--- One line more: that of the record that the reader gave, if it gave one, or its fault. Where memory ends, nothing is said.
-abbrev pub NextLine : Reader → Result (Option (String Global)) DayFault → Reader → Type 0
-NextLine s (Ok None) t = Next s (Ok None) t
-NextLine s (Ok (Some line)) t = (y : Entry) × Next s (Ok (Some y)) t × (string_bytes line ≡ record_line (s.count + 1) (view y))
-NextLine s (Err (Record f)) t = Next s (Err f) t
-NextLine s (Err (Memory e)) t = ⊤
+-- One line more: that of the record that the reader gave, if it gave one, by what the record was answered; or the fault of the
+-- reading. Where memory ends, nothing is said.
+abbrev pub NextLine : Reader → Day → Result (Option (String Global)) Ending → Reader → Day → Type 0
+NextLine s d (Ok None) t e = Next s (Ok None) t
+NextLine s d (Ok (Some line)) t e =
+    (y : Entry) × (r : Result Answer DayFault) × Next s (Ok (Some y)) t × Performs d (view y) (place_of s) r e
+    × (string_bytes line ≡ record_line (s.count + 1) (mark_of_record (view y)) r)
+NextLine s d (Err (Fault f)) t e = Next s (Err f) t
+NextLine s d (Err (Memory e)) t d' = ⊤

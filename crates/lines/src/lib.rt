@@ -1,6 +1,6 @@
 // The lines that the program `day` prints.
 #![tactic(auto)]
 
-pub mod fault;
+pub mod ending;
 pub mod listing;
 pub mod text;

@@ -1,0 +1,9 @@
+pub mod Lists
+pub mod Kept
+pub mod Growing
+pub mod Steps
+pub mod Finding
+pub mod Setting
+pub mod Holding
+pub mod Slips
+pub mod Quoting

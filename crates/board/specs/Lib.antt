@@ -1,0 +1,6 @@
+pub mod Owing
+pub mod Planned
+pub mod States
+pub mod Rules
+pub mod Calls
+pub mod Questions

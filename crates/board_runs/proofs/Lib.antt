@@ -1,0 +1,4 @@
+pub mod Steps
+pub mod Worlds
+pub mod Replaying
+pub mod Kept

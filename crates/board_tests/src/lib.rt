@@ -1,0 +1,400 @@
+// Tests of the board at its bounds, in a crate of their own, since a crate with tests is proved twice. What is expected was worked
+// out by hand; plans, figures, marks and standing rates also by `tools/board_cases.py`.
+#![tactic(auto)]
+
+#[cfg(test)]
+mod tests {
+    use board::Board;
+    use ranking::{DepotOrder, PeriodOrder, Ranking};
+    use refusals::Refusal::{
+        self, BadCapacity, BadEnds, BadHorizon, BadPallets, BadTransit, BadYard, ListTooShort,
+        NamedBefore, NoDeparture, NoDepot, NoPlan, NoneLeft, NotAsNeeded,
+    };
+    use slips::moves::Act::{self, Book, Pin, Release, TearUp};
+    use slips::moves::SlipState::{Booked, InHand, Pinned, Released};
+    use slips::refusal::Returned;
+    use slips::slip::Slip;
+    use slips::table::SlipTable;
+    use std::alloc::Global;
+    use std::process::Abort;
+    use std::test::Fail;
+    use timetable::Lane;
+
+    // A lane.
+    const fn lane(from: u8, to: u8, transit: u8) -> Lane {
+        Lane { from, to, transit }
+    }
+
+    // A board with one lane, from the origin 0 to the depot 1, that takes one period.
+    fn one_lane(heap: Global, horizon: u8, capacity: u16) -> Result<Board, Fail> {
+        let mut board = Board::new(heap)?;
+        board.open(horizon, 0)?;
+        board.add_lane(lane(0, 1, 1), capacity)?;
+        board.name_depot(1)?;
+        Ok(board)
+    }
+
+    // A board with three lanes, one from the origin 0 to the yard 1, and from there one to each of the depots 2 and 3.
+    fn three_lanes(heap: Global, horizon: u8) -> Result<Board, Fail> {
+        let mut board = Board::new(heap)?;
+        board.open(horizon, 0)?;
+        board.add_lane(lane(0, 1, 1), 3)?;
+        board.add_lane(lane(1, 2, 1), 2)?;
+        board.add_lane(lane(1, 3, 1), 2)?;
+        board.name_depot(2)?;
+        board.name_depot(3)?;
+        Ok(board)
+    }
+
+    // Whether a slip was taken. One that came back is torn up, on a table that does not have it.
+    fn taken(spent: Result<(), Returned>) -> Result<(), Refusal> {
+        let Err(Returned { why: _, slip }) = spent else {
+            return Ok(());
+        };
+        SlipTable::new().spend(slip, TearUp).unwrap();
+        Err(NotAsNeeded)
+    }
+
+    // The slip, if this cannot be done with it.
+    fn back(board: &mut Board, slip: Slip, act: Act) -> Option<Slip> {
+        match board.spend(slip, act) {
+            Ok(()) => None,
+            Err(Returned { why: _, slip }) => Some(slip),
+        }
+    }
+
+    // Holds pallets and does this with the slip. The slip's number.
+    fn hold(board: &mut Board, yard: u8, pallets: u16, act: Act) -> Result<u16, Refusal> {
+        let slip = board.hold(yard, pallets)?;
+        let number = slip.number();
+        taken(board.spend(slip, act))?;
+        Ok(number)
+    }
+
+    // Picks up the slip of a number and does this with it.
+    fn pick_up(board: &mut Board, number: u16, act: Act) -> Result<(), Refusal> {
+        let slip = board.pick_up(number)?;
+        taken(board.spend(slip, act))
+    }
+
+    // The quote by a ranking, in lists that are longer than it and had 99 everywhere.
+    fn quote<R: Ranking + Drop>(
+        board: &mut Board,
+        ranking: R,
+    ) -> Result<([u64; 5], [u8; 130]), Refusal> {
+        let mut figures = [99; 5];
+        let mut marks = [99; 130];
+        board.quote(ranking, &mut figures, &mut marks)?;
+        Ok((figures, marks))
+    }
+
+    // The figures by depot order and by period order.
+    fn figures(board: &mut Board) -> Result<([u64; 5], [u64; 5]), Refusal> {
+        let (by_depot, _) = quote(board, DepotOrder)?;
+        let (by_period, _) = quote(board, PeriodOrder)?;
+        Ok((by_depot, by_period))
+    }
+
+    // Compares the marks up to the period 3: those of the yards 0 to 3 are these, and the others are 0. Past them there is 99.
+    fn check_marks(rt: &impl Abort, marks: &[u8; 130], first: &[u8; 16]) {
+        for (place, mark) in marks.iter().enumerate() {
+            let expected = match place {
+                0..16 => first[place],
+                16..128 => 0,
+                _ => 99,
+            };
+            assert_eq!(rt; *mark, expected, "at {place}");
+        }
+    }
+
+    #[test]
+    fn horizon_and_origin(rt: HostRuntime) -> Result<(), Fail> {
+        let mut board = Board::new(rt.alloc())?;
+        assert_eq!(rt; (board.horizon(), board.origin()), (1, 0));
+        assert_eq!(rt; board.open(47, 31), Ok(()));
+        assert_eq!(rt; board.open(0, 0), Err(BadHorizon));
+        assert_eq!(rt; board.open(48, 32), Err(BadHorizon));
+        assert_eq!(rt; board.open(1, 32), Err(BadYard));
+        assert_eq!(rt; (board.horizon(), board.origin()), (47, 31));
+        assert_eq!(rt; board.open(1, 0), Ok(()));
+        assert_eq!(rt; (board.horizon(), board.origin()), (1, 0));
+        Ok(())
+    }
+
+    // A lane whose transit time is the horizon departs in the period 0 alone.
+    #[test]
+    fn transit_times(rt: HostRuntime) -> Result<(), Fail> {
+        let mut board = Board::new(rt.alloc())?;
+        for horizon in [1, 3, 47] {
+            board.open(horizon, 0)?;
+            assert_eq!(rt; board.add_lane(lane(0, 1, horizon), 5), Ok(0));
+            assert_eq!(rt; board.add_lane(lane(0, 1, 0), 5), Err(BadTransit));
+            assert_eq!(rt; board.add_lane(lane(0, 1, 48), 5), Err(BadTransit));
+            assert_eq!(rt; board.lanes().len(), 1);
+            assert_eq!(rt;
+                (board.capacity(0, 0), board.load(0, 0)),
+                (Some(5), Some(0))
+            );
+            assert_eq!(rt; (board.capacity(0, 1), board.load(0, 1)), (None, None));
+            assert_eq!(rt; board.set_departure(0, 0, 6), Ok(()));
+            assert_eq!(rt; board.set_departure(0, 1, 6), Err(NoDeparture));
+            assert_eq!(rt; board.set_departure(1, 0, 6), Err(NoDeparture));
+            assert_eq!(rt; board.capacity(0, 0), Some(6));
+        }
+        Ok(())
+    }
+
+    #[test]
+    fn capacities(rt: HostRuntime) -> Result<(), Fail> {
+        let mut board = one_lane(rt.alloc(), 3, 9999)?;
+        assert_eq!(rt; board.add_lane(lane(0, 1, 1), 10000), Err(BadCapacity));
+        assert_eq!(rt; board.lanes().len(), 1);
+        assert_eq!(rt; board.set_departure(0, 1, 10000), Err(BadCapacity));
+        assert_eq!(rt; board.capacity(0, 1), Some(9999));
+        assert_eq!(rt; board.set_departure(0, 1, 0), Ok(()));
+        assert_eq!(rt; board.set_departure(0, 2, 9999), Ok(()));
+        let told = [0, 1, 2, 3].map(|period| board.capacity(0, period));
+        assert_eq!(rt; told, [Some(9999), Some(0), Some(9999), None]);
+        Ok(())
+    }
+
+    #[test]
+    fn pallets(rt: HostRuntime) -> Result<(), Fail> {
+        let mut board = one_lane(rt.alloc(), 1, 9999)?;
+        assert_eq!(rt; hold(&mut board, 1, 0, Book), Err(BadPallets));
+        assert_eq!(rt; hold(&mut board, 1, 10000, Book), Err(BadPallets));
+        assert_eq!(rt; hold(&mut board, 1, 1, Release), Ok(0));
+        assert_eq!(rt; (board.owed(1), board.load(0, 0)), (0, Some(0)));
+        assert_eq!(rt; hold(&mut board, 1, 9999, Book), Ok(1));
+        assert_eq!(rt; (board.owed(1), board.load(0, 0)), (9999, Some(9999)));
+        assert_eq!(rt; hold(&mut board, 1, 1, Book), Err(NoPlan));
+        assert_eq!(rt; (board.owed(1), board.load(0, 0)), (9999, Some(9999)));
+        Ok(())
+    }
+
+    #[test]
+    fn most_lanes(rt: HostRuntime) -> Result<(), Fail> {
+        let mut board = Board::new(rt.alloc())?;
+        for number in 0..96 {
+            assert_eq!(rt; board.add_lane(lane(0, 1, 1), 1), Ok(number));
+        }
+        assert_eq!(rt; board.add_lane(lane(0, 1, 1), 1), Err(NoneLeft));
+        assert_eq!(rt; board.lanes().len(), 96);
+        assert_eq!(rt; board.name_depot(1), Ok(0));
+        assert_eq!(rt; hold(&mut board, 1, 97, Book), Err(NoPlan));
+        assert_eq!(rt; hold(&mut board, 1, 96, Book), Ok(0));
+        assert_eq!(rt; (board.load(95, 0), board.load(96, 0)), (Some(1), None));
+        Ok(())
+    }
+
+    #[test]
+    fn most_depots(rt: HostRuntime) -> Result<(), Fail> {
+        let mut board = Board::new(rt.alloc())?;
+        for order in 0..16 {
+            assert_eq!(rt; board.name_depot(31 - order), Ok(order));
+        }
+        assert_eq!(rt; board.name_depot(15), Err(NoneLeft));
+        assert_eq!(rt; board.name_depot(31), Err(NoneLeft));
+        assert_eq!(rt; board.depots().len(), 16);
+        Ok(())
+    }
+
+    #[test]
+    fn most_holds(rt: HostRuntime) -> Result<(), Fail> {
+        let mut board = one_lane(rt.alloc(), 1, 9999)?;
+        for number in 0..512 {
+            assert_eq!(rt; hold(&mut board, 1, 1, Book), Ok(number));
+        }
+        assert_eq!(rt; hold(&mut board, 32, 1, Book), Err(BadYard));
+        assert_eq!(rt; hold(&mut board, 1, 0, Book), Err(BadPallets));
+        assert_eq!(rt; hold(&mut board, 1, 1, Book), Err(NoneLeft));
+        assert_eq!(rt; hold(&mut board, 2, 1, Book), Err(NoneLeft));
+        assert_eq!(rt; (board.owed(1), board.load(0, 0)), (512, Some(512)));
+        assert_eq!(rt;
+            (board.slip_state(511), board.slip_state(512)),
+            (Some(Booked), None)
+        );
+        Ok(())
+    }
+
+    #[test]
+    fn ends_of_lanes(rt: HostRuntime) -> Result<(), Fail> {
+        let mut board = Board::new(rt.alloc())?;
+        board.open(3, 7)?;
+        assert_eq!(rt; board.add_lane(lane(1, 7, 1), 1), Err(BadEnds));
+        assert_eq!(rt; board.add_lane(lane(2, 2, 1), 1), Err(BadEnds));
+        assert_eq!(rt; board.add_lane(lane(7, 7, 1), 1), Err(BadEnds));
+        assert_eq!(rt; board.add_lane(lane(32, 1, 1), 1), Err(BadYard));
+        assert_eq!(rt; board.add_lane(lane(1, 32, 1), 1), Err(BadYard));
+        assert_eq!(rt; board.add_lane(lane(31, 0, 1), 1), Ok(0));
+        assert_eq!(rt; board.lanes(), [lane(31, 0, 1)].as_slice());
+        Ok(())
+    }
+
+    #[test]
+    fn yards_of_depots(rt: HostRuntime) -> Result<(), Fail> {
+        let mut board = Board::new(rt.alloc())?;
+        board.open(3, 7)?;
+        assert_eq!(rt; board.name_depot(7), Err(NamedBefore));
+        assert_eq!(rt; board.name_depot(32), Err(BadYard));
+        assert_eq!(rt; board.name_depot(31), Ok(0));
+        assert_eq!(rt; board.name_depot(31), Err(NamedBefore));
+        assert_eq!(rt; board.name_depot(0), Ok(1));
+        assert_eq!(rt; board.depots(), [31, 0].as_slice());
+        assert_eq!(rt; hold(&mut board, 7, 1, Book), Err(NoDepot));
+        assert_eq!(rt; hold(&mut board, 1, 1, Book), Err(NoDepot));
+        assert_eq!(rt; hold(&mut board, 32, 1, Book), Err(BadYard));
+        assert_eq!(rt; hold(&mut board, 0, 1, Book), Err(NoPlan));
+        Ok(())
+    }
+
+    #[test]
+    fn quotes_with_nothing_owed(rt: HostRuntime) -> Result<(), Fail> {
+        let mut board = three_lanes(rt.alloc(), 3)?;
+        let (figures, marks) = quote(&mut board, DepotOrder)?;
+        assert_eq!(rt; figures, [4, 2, 99, 99, 99]);
+        check_marks(
+            &rt,
+            &marks,
+            &[3, 3, 0, 0, 0, 2, 2, 0, 0, 0, 1, 1, 0, 0, 2, 2],
+        );
+        let (figures, marks) = quote(&mut board, PeriodOrder)?;
+        assert_eq!(rt; figures, [0, 0, 3, 3, 99]);
+        check_marks(
+            &rt,
+            &marks,
+            &[5, 5, 0, 0, 0, 3, 4, 0, 0, 0, 3, 4, 0, 0, 3, 4],
+        );
+        Ok(())
+    }
+
+    #[test]
+    fn holds_and_a_lowered_departure(rt: HostRuntime) -> Result<(), Fail> {
+        let mut board = three_lanes(rt.alloc(), 3)?;
+        assert_eq!(rt; hold(&mut board, 3, 5, Book), Err(NoPlan));
+        assert_eq!(rt; hold(&mut board, 3, 3, Book), Ok(0));
+        let by_both = ([3, 0, 99, 99, 99], [0, 0, 2, 1, 99]);
+        assert_eq!(rt; figures(&mut board), Ok(by_both));
+        assert_eq!(rt; board.set_departure(0, 1, 0), Err(NoPlan));
+        assert_eq!(rt; board.capacity(0, 1), Some(3));
+        assert_eq!(rt; figures(&mut board), Ok(by_both));
+        assert_eq!(rt; board.set_departure(0, 1, 1), Ok(()));
+        assert_eq!(rt;
+            figures(&mut board),
+            Ok(([1, 0, 99, 99, 99], [0, 0, 1, 0, 99]))
+        );
+        assert_eq!(rt; hold(&mut board, 2, 2, Book), Err(NoPlan));
+        assert_eq!(rt; (board.owed(2), board.slip_state(1)), (0, None));
+        assert_eq!(rt; hold(&mut board, 2, 1, Book), Ok(1));
+        assert_eq!(rt; (board.owed(2), board.owed(3)), (1, 3));
+        assert_eq!(rt;
+            figures(&mut board),
+            Ok(([0, 0, 99, 99, 99], [0, 0, 0, 0, 99]))
+        );
+        Ok(())
+    }
+
+    // Nothing arrives up to the period 1.
+    #[test]
+    fn shortest_horizon(rt: HostRuntime) -> Result<(), Fail> {
+        let mut board = three_lanes(rt.alloc(), 1)?;
+        let (figures, marks) = quote(&mut board, DepotOrder)?;
+        assert_eq!(rt; figures, [0, 0, 99, 99, 99]);
+        let (quoted, past) = marks.split_at(64);
+        assert!(rt; quoted.iter().all(|mark| *mark == 0));
+        assert!(rt; past.iter().all(|mark| *mark == 99));
+        assert_eq!(rt; hold(&mut board, 2, 1, Book), Err(NoPlan));
+        Ok(())
+    }
+
+    #[test]
+    fn lists_too_short(rt: HostRuntime) -> Result<(), Fail> {
+        let mut board = three_lanes(rt.alloc(), 3)?;
+        let mut figures = [99; 2];
+        let mut marks = [99; 128];
+        let short_figures = board.quote(DepotOrder, &mut figures[..1], &mut marks);
+        assert_eq!(rt; short_figures, Err(ListTooShort));
+        let short_marks = board.quote(DepotOrder, &mut figures, &mut marks[..127]);
+        assert_eq!(rt; short_marks, Err(ListTooShort));
+        assert_eq!(rt; figures, [99; 2]);
+        assert!(rt; marks.iter().all(|mark| *mark == 99));
+        assert_eq!(rt; board.quote(DepotOrder, &mut figures, &mut marks), Ok(()));
+        assert_eq!(rt; figures, [4, 2]);
+        Ok(())
+    }
+
+    #[test]
+    fn release_frees(rt: HostRuntime) -> Result<(), Fail> {
+        let mut board = one_lane(rt.alloc(), 1, 5)?;
+        assert_eq!(rt; hold(&mut board, 1, 5, Pin), Ok(0));
+        assert_eq!(rt; hold(&mut board, 1, 1, Book), Err(NoPlan));
+        assert_eq!(rt; board.set_departure(0, 0, 4), Err(NoPlan));
+        assert_eq!(rt; pick_up(&mut board, 0, Release), Ok(()));
+        assert_eq!(rt; (board.owed(1), board.load(0, 0)), (0, Some(0)));
+        assert_eq!(rt; board.slip_state(0), Some(Released));
+        assert_eq!(rt; board.set_departure(0, 0, 4), Ok(()));
+        assert_eq!(rt; hold(&mut board, 1, 5, Book), Err(NoPlan));
+        assert_eq!(rt; hold(&mut board, 1, 4, Book), Ok(1));
+        Ok(())
+    }
+
+    #[test]
+    fn slip_picked_up_twice(rt: HostRuntime) -> Result<(), Fail> {
+        let mut board = one_lane(rt.alloc(), 1, 5)?;
+        assert_eq!(rt; pick_up(&mut board, 0, Book), Err(NotAsNeeded));
+        assert_eq!(rt; hold(&mut board, 1, 2, Pin), Ok(0));
+        assert_eq!(rt; board.slip_state(0), Some(Pinned));
+        let slip = board.pick_up(0)?;
+        assert_eq!(rt; (slip.number(), slip.depot(), slip.pallets()), (0, 1, 2));
+        assert_eq!(rt; pick_up(&mut board, 0, Book), Err(NotAsNeeded));
+        assert_eq!(rt; board.slip_state(0), Some(InHand));
+        assert_eq!(rt; taken(board.spend(slip, Book)), Ok(()));
+        assert_eq!(rt; pick_up(&mut board, 0, Release), Err(NotAsNeeded));
+        assert_eq!(rt; (board.slip_state(0), board.owed(1)), (Some(Booked), 2));
+        Ok(())
+    }
+
+    // A slip that has the number of a hold on this board, and other pallets.
+    #[test]
+    fn slip_of_another_board(rt: HostRuntime) -> Result<(), Fail> {
+        let mut board = one_lane(rt.alloc(), 1, 9)?;
+        assert_eq!(rt; hold(&mut board, 1, 4, Pin), Ok(0));
+        let slip = one_lane(rt.alloc(), 1, 9)?.hold(1, 5)?;
+        let slip = back(&mut board, slip, Book).ok_or("booked")?;
+        let slip = back(&mut board, slip, Release).ok_or("released")?;
+        let slip = back(&mut board, slip, Pin).ok_or("pinned")?;
+        assert_eq!(rt; taken(board.spend(slip, TearUp)), Ok(()));
+        assert_eq!(rt; (board.slip_state(0), board.owed(1)), (Some(Pinned), 4));
+        assert_eq!(rt; board.load(0, 0), Some(4));
+        assert_eq!(rt; pick_up(&mut board, 0, Book), Ok(()));
+        Ok(())
+    }
+
+    // The lane to the yard 1 takes 3 pallets, and 1 where its smallest departure is lowered to that.
+    #[test]
+    fn standing_rates(rt: HostRuntime) -> Result<(), Fail> {
+        let mut board = three_lanes(rt.alloc(), 3)?;
+        assert_eq!(rt; board.standing_rate(), 3);
+        assert_eq!(rt; board.set_departure(0, 1, 1), Ok(()));
+        assert_eq!(rt; board.standing_rate(), 1);
+        board.open(3, 0)?;
+        assert_eq!(rt; board.standing_rate(), 0);
+        Ok(())
+    }
+
+    // A board that is opened again has no lane, no depot and no hold of the day before.
+    #[test]
+    fn opened_again(rt: HostRuntime) -> Result<(), Fail> {
+        let mut board = one_lane(rt.alloc(), 1, 5)?;
+        assert_eq!(rt; hold(&mut board, 1, 5, Book), Ok(0));
+        assert_eq!(rt; board.open(1, 0), Ok(()));
+        assert_eq!(rt; (board.lanes().len(), board.depots().len()), (0, 0));
+        assert_eq!(rt; (board.owed(1), board.slip_state(0)), (0, None));
+        assert_eq!(rt; board.load(0, 0), None);
+        assert_eq!(rt; board.add_lane(lane(0, 1, 1), 5), Ok(0));
+        assert_eq!(rt; board.load(0, 0), Some(0));
+        assert_eq!(rt; board.name_depot(1), Ok(0));
+        assert_eq!(rt; hold(&mut board, 1, 5, Book), Ok(0));
+        Ok(())
+    }
+}
