@@ -1,5 +1,7 @@
 -- What was printed so far, and what each answer of the reader adds to it.
 use Rattle.std.proofs.Common.{◌≡◌, ℕ, ◌+◌, ◌-◌, ◌<◌, List, [], ◌∷◌, ◌++◌, length, Some, None, Ok, Err, Option, Result, sym, refl, ap, ◌∙◌, subst, append_assoc, append-nil, arith}
+use Rattle.std.specs.List.{zip}
+use Rattle.refusals.specs.Runs.{Ran}
 use Rattle.dayfile.specs.declared.fault.Position.{Position}
 use Rattle.dayfile.specs.declared.fault.RecordFault.{RecordFault}
 use Rattle.dayfile.specs.declared.fault.RecordFault.TheVariants.{File, BadName}
@@ -10,7 +12,7 @@ use Rattle.dayfile.specs.Records.{Rec, view, mark_of_record}
 use Rattle.dayfile.specs.Reading.{Step, end, got, bad, stands, here, place_of, Follows, Next, Fresh, Reads, ends, faulty, misnamed, goes}
 use Rattle.session.specs.declared.fault.DayFault.{DayFault}
 use Rattle.session.specs.Days.{Day, beginning}
-use Rattle.session.specs.Performing.{Turn, Performs, Runs, over, on}
+use Rattle.session.specs.Performing.{Performs, Turns}
 use Rattle.session.specs.Replies.{Answer}
 use Rattle.lines.specs.Lines.{record_line, fault_line}
 use Rattle.lines.specs.Listing.{Lists, lines_of, ended}
@@ -22,22 +24,23 @@ line_of_fault f = fault_line (record_number f) (record_position f)
 -- whole file.
 pub record Sofar (file : List ℕ) (s : Reader) (d : Day) (out : List ℕ) : Type 0 where
   pub bytes : s.file.now ≡ file
-  pub rest : (xs : List (Position × Rec)) (ts : List Turn) (f : Option RecordFault) → Reads file (s.count + 1) s.offset xs f → Runs d xs ts
-      → Lists file (out ++ lines_of ts f)
+  pub rest : (xs : List (Position × Rec)) (rs : List (Result Answer DayFault)) (f : Option RecordFault) (e : Day) → Reads file (s.count + 1) s.offset xs f → Ran Turns d xs rs e
+      → Lists file (out ++ lines_of (zip xs rs) f)
 
 pub start : (file : List ℕ) (s : Reader) (d : Day) (out : List ℕ) → Fresh file s → d ≡ beginning → out ≡ [] → Sofar file s d out
 start file s d out fresh begun none = record {
   bytes = fresh.file;
   rest =
-      λ xs ts f r t.
+      λ xs rs f e r t.
       let first : s.count + 1 ≡ 1 = omega (arith, fresh.count) in
       record {
         records = xs;
         fault = f;
-        turns = ts;
+        answers = rs;
+        end = e;
         reads = subst (λ n. Reads file n 0 xs f) first (subst (λ p. Reads file (s.count + 1) p xs f) fresh.offset r);
-        runs = subst (λ (e : Day). Runs e xs ts) begun t;
-        lines = λ i. none i ++ lines_of ts f;
+        runs = subst (λ (b : Day). Ran Turns b xs rs e) begun t;
+        lines = λ i. none i ++ lines_of (zip xs rs) f;
       };
 }
 
@@ -46,7 +49,7 @@ module _ (file : List ℕ) (s t : Reader) (d : Day) (out : List ℕ) (so : Sofar
   stands_at k e = ap (λ b. stands b (place (s.count + 1) s.offset)) (sym so.bytes) ∙ e
 
   done' : (k : Step) → here s ≡ k → Follows k s (Ok None) t → Lists file out
-  done' end e h = subst (Lists file) (append-nil out) (so.rest [] [] None (ends (stands_at end e)) over)
+  done' end e h = subst (Lists file) (append-nil out) (so.rest [] [] None d (ends (stands_at end e)) Ran.none)
   done' (got x q) e h = absurd h
   done' (bad f) e h = absurd (cc)
 
@@ -57,11 +60,11 @@ module _ (file : List ℕ) (s t : Reader) (d : Day) (out : List ℕ) (so : Sofar
   stopped' end e f h = absurd (cc)
   stopped' (got x q) e f h =
       subst (λ g. Lists file (out ++ ended (line_of_fault g))) (sym h.1)
-      (so.rest [] [] (Some (BadName (place (s.count + 1) s.offset))) (misnamed x q (stands_at (got x q) e) h.0) over)
+      (so.rest [] [] (Some (BadName (place (s.count + 1) s.offset))) d (misnamed x q (stands_at (got x q) e) h.0) Ran.none)
   stopped' (bad g) e f h =
-      let d = h.0 in
+      let is = h.0 in
       let same : f ≡ File g = cc in
-      subst (λ r. Lists file (out ++ ended (line_of_fault r))) (sym same) (so.rest [] [] (Some (File g)) (faulty g (stands_at (bad g) e)) over)
+      subst (λ r. Lists file (out ++ ended (line_of_fault r))) (sym same) (so.rest [] [] (Some (File g)) d (faulty g (stands_at (bad g) e)) Ran.none)
 
   pub stopped : (f : RecordFault) → Next s (Err f) t → Lists file (out ++ ended (line_of_fault f))
   stopped f h = stopped' (here s) refl f h
@@ -78,11 +81,11 @@ module _ (file : List ℕ) (s t : Reader) (d : Day) (out : List ℕ) (so : Sofar
       record {
         bytes = h.2.file ∙ so.bytes;
         rest =
-            λ xs ts f reads runs.
+            λ xs rs f last reads runs.
             let from = subst (λ n. Reads file n q xs f) next (subst (λ p. Reads file (t.count + 1) p xs f) h.2.offset reads) in
             let performs = subst (λ (z : Rec). Performs d z (place_of s) r e) h.1 p in
-            let same = append_assoc out (ended (line (view y) r)) (lines_of ts f) ∙ (λ i. out ++ (ended (line (h.1 i) r) ++ lines_of ts f)) in
-            subst (Lists file) (sym same) (so.rest ((place_of s, x) ∷ xs) (record { at = place_of s; entry = x; answer = r } ∷ ts) f (goes x q (stands_at (got x q) at) h.0 from) (on performs runs));
+            let same = append_assoc out (ended (line (view y) r)) (lines_of (zip xs rs) f) ∙ (λ i. out ++ (ended (line (h.1 i) r) ++ lines_of (zip xs rs) f)) in
+            subst (Lists file) (sym same) (so.rest ((place_of s, x) ∷ xs) (r ∷ rs) f last (goes x q (stands_at (got x q) at) h.0 from) (Ran.more performs runs));
       }
   more' (bad f) at y r e h p = absurd (cc)
 

@@ -1,5 +1,5 @@
 -- What records ask of a board by more than one call, or with lists of their own.
-use Rattle.std.specs.Prelude.{◌≡◌, ℕ, List, take, Ok, Err, Result}
+use Rattle.std.specs.Prelude.{◌≡◌, ℕ, List, length, Ok, Err, Result}
 use Rattle.ranking.specs.Ranking.{Ranking}
 use Rattle.timetable.specs.Quotes.{Right}
 use Rattle.refusals.specs.declared.Refusal.{Refusal}
@@ -20,6 +20,8 @@ unfoldable pub SpendsPicked : State → ℕ → Act → Result Unit Refusal → 
 SpendsPicked s number act (Ok x) s' = (slip : Slip) × (between : State) × PicksUp s number (Ok slip) between × Spends between slip act (Ok tt) s'
 SpendsPicked s number act (Err why) s' = PicksUp s number (Err why) s'
 
--- These are the figures of the ranks in a right quote.
-abbrev pub QuotesFigures : State → Ranking → List ℕ → Type 0
-QuotesFigures s R told = (figures : List ℕ) × (marks : List ℕ) × Right (day s) (owed s) R figures marks × (told ≡ take R.ranks figures)
+-- These are the figures of a right quote, one for each rank.
+pub record QuotesFigures (s : State) (R : Ranking) (told : List ℕ) : Type 0 where
+  pub each : length told ≡ R.ranks
+  pub marks : List ℕ
+  pub right : Right (day s) (owed s) R told marks

@@ -1,5 +1,5 @@
 -- How the records of a day are performed.
-use Rattle.std.specs.Prelude.{◌≡◌, ℕ, Bool, not, List, [], ◌∷◌, length, Some, None, Ok, Err, Option, Result, MatchBool, nat_lt, ◌==◌, if◌then◌else◌}
+use Rattle.std.specs.Prelude.{◌≡◌, ℕ, Bool, not, List, length, Some, None, Ok, Err, Option, Result, MatchBool, nat_lt, ◌==◌, if◌then◌else◌}
 use Rattle.ranking.specs.Ranking.{Ranking, by_depot, by_period}
 use Rattle.timetable.specs.declared.Lane.{Lane}
 use Rattle.refusals.specs.declared.Refusal.{Refusal}
@@ -21,8 +21,8 @@ abbrev pub out_of_turn : Bool → Rec → Bool
 out_of_turn opened (opening h o) = opened
 out_of_turn opened x = not opened
 
--- A record makes a call on the board. Where the call is accepted, the record is answered what that says, and the day goes on with the
--- board after the call. Where the board turns it away, the record is told why, with its position, and the day is as it was.
+-- A record makes a call on the board. Where the call is accepted, the record is answered what that says, and the day goes on with
+-- the board after the call. Where the board turns it away, the record is told why, with its position, and the day is as it was.
 unfoldable pub Called : {X : Type 0} → (Result X Refusal → State → Type 0) → (X → Answer) → (State → Day) → Day → Position → Result Answer DayFault → Day → Type 0
 Called {X = X} Call says after d at (Ok a) d' = (x : X) × (b : State) × Call (Ok x) b × (a ≡ says x) × (d' ≡ after b)
 Called Call says after d at (Err f) d' = (why : Refusal) × Call (Err why) d.board × (f ≡ Board why at) × (d' ≡ d)
@@ -60,13 +60,6 @@ InTurn run_sheet d = λ at r d'. (r ≡ Ok done) × (d' ≡ d)
 abbrev pub Performs : Day → Rec → Position → Result Answer DayFault → Day → Type 0
 Performs d x at r d' = MatchBool (out_of_turn d.opened x) ((r ≡ Err (Record (OutOfTurn at))) × (d' ≡ d)) (InTurn x d at r d')
 
--- A turn of a day: a record, its position, and what it was answered.
-pub record Turn : Type 0 where
-  pub at : Position
-  pub entry : Rec
-  pub answer : Result Answer DayFault
-
--- The records are performed in their order, from a day on.
-pub data Runs : Day → List (Position × Rec) → List Turn → Type 0 where
-  over : {d : Day} → Runs d [] []
-  on : {d e : Day} {at : Position} {x : Rec} {r : Result Answer DayFault} {xs : List (Position × Rec)} {ts : List Turn} → Performs d x at r e → Runs e xs ts → Runs d ((at, x) ∷ xs) (record { at = at; entry = x; answer = r } ∷ ts)
+-- a turn of a day: a record with its position is performed
+abbrev pub Turns : Day → Position × Rec → Result Answer DayFault → Day → Type 0
+Turns d x r d' = Performs d x.1 x.0 r d'

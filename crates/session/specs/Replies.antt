@@ -6,8 +6,8 @@ use Rattle.session.specs.declared.reply.Figures.{Figures}
 use Rattle.session.specs.declared.reply.Reply.{Reply}
 use Rattle.session.specs.declared.reply.Reply.TheVariants as code
 
--- What a record is answered: that all is done; the number of a lane; the place of a depot in their order, with the name of its yard,
--- if that has one; the number of a slip; or the figures of a quote.
+-- What a record is answered: that all is done; the number of a lane; the place of a depot in their order, with the name of its
+-- yard, if that has one; the number of a slip; or the figures of a quote.
 pub data Answer : Type 0 where
   done : Answer
   lane_number : (number : ℕ) → Answer

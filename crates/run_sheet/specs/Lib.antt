@@ -1,0 +1,7 @@
+pub mod Lists
+pub mod Runs
+pub mod Finding
+pub mod Taking
+pub mod Calls
+pub mod Sheets
+pub mod Splits
