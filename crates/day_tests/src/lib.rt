@@ -136,7 +136,7 @@ mod tests {
     ];
 
     // Holds, which are pinned, booked or released by number.
-    const HOLDS: [Case; 3] = [
+    const HOLDS: [Case; 4] = [
         Case {
             file: b"HZ\x03\x00LN\x00\x01\x01\x00\x03LN\x01\x02\x01\x00\x02LN\x01\x03\x01\x00\x02DP\x02DP\x03QT\x00HD\x03\x00\x05HD\x03\x00\x03QT\x00BK\x00\x00RL\x00\x00",
             text: "1 HZ ok\n2 LN ok 0\n3 LN ok 1\n4 LN ok 2\n5 DP ok 0\n6 DP ok 1\n7 QT ok 4 2\n8 HD no 18\n9 HD ok 0\n10 QT ok 3 0\n11 BK ok\n12 RL no 17\n",
@@ -146,8 +146,13 @@ mod tests {
             text: "1 HZ ok\n2 LN ok 0\n3 DP ok 0\n4 HD no 5\n5 HD no 5\n6 HD no 5\n7 HD no 2\n8 HD no 15\n9 HD no 18\n10 HD ok 0\n11 HD no 18\n12 RL ok\n13 RL no 17\n14 BK no 17\n15 HD ok 1\n16 BK ok\n17 BK no 17\n18 RL no 17\n19 BK no 17\n20 RL no 17\n21 QT ok 8\n",
         },
         Case {
-            file: b"HZ\x03\x00LN\x00\x01\x01\x00\x03DP\x01HD\x01\x00\x08SD\x00\x00\x00\x02SD\x00\x00\x00\x01SD\x00\x00\x00\x03HD\x01\x00\x01RL\x00\x00SD\x00\x00\x00\x00QT\x00QT\x01RS",
-            text: "1 HZ ok\n2 LN ok 0\n3 DP ok 0\n4 HD ok 0\n5 SD ok\n6 SD no 18\n7 SD ok\n8 HD ok 1\n9 RL ok\n10 SD ok\n11 QT ok 5\n12 QT ok 0 0 3 2\n13 RS ok\n",
+            file: b"HZ\x03\x00LN\x00\x01\x01\x00\x03DP\x01HD\x01\x00\x08SD\x00\x00\x00\x02SD\x00\x00\x00\x01SD\x00\x00\x00\x03HD\x01\x00\x01RL\x00\x00SD\x00\x00\x00\x00QT\x00QT\x01",
+            text: "1 HZ ok\n2 LN ok 0\n3 DP ok 0\n4 HD ok 0\n5 SD ok\n6 SD no 18\n7 SD ok\n8 HD ok 1\n9 RL ok\n10 SD ok\n11 QT ok 5\n12 QT ok 0 0 3 2\n",
+        },
+        // Run sheets, where there is but one plan, and it has but one run.
+        Case {
+            file: b"HZ\x02\x00LN\x00\x01\x01\x00\x05LN\x01\x02\x01\x00\x04DP\x02RSHD\x02\x00\x02RSRL\x00\x00RS",
+            text: "1 HZ ok\n2 LN ok 0\n3 LN ok 1\n4 DP ok 0\n5 RS ok\n6 HD ok 0\n7 RS ok\n2: 0@0 1@1\n8 RL ok\n9 RS ok\n",
         },
     ];
 

@@ -1,2 +1,3 @@
 pub mod Sofar
 pub mod Words
+pub mod Followed

@@ -1,5 +1,5 @@
 -- What was printed so far, and what each answer of the reader adds to it.
-use Rattle.std.proofs.Common.{◌≡◌, ℕ, ◌+◌, ◌-◌, ◌<◌, List, [], ◌∷◌, ◌++◌, length, Some, None, Ok, Err, Option, Result, sym, refl, ap, ◌∙◌, subst, append_assoc, append-nil, arith}
+use Rattle.std.proofs.Common.{◌≡◌, ℕ, ◌+◌, ◌-◌, ◌<◌, List, [], ◌∷◌, ◌++◌, length, Some, None, Ok, Err, Option, sym, refl, ap, ◌∙◌, subst, append_assoc, append-nil, arith}
 use Rattle.std.specs.List.{zip}
 use Rattle.refusals.specs.Runs.{Ran}
 use Rattle.dayfile.specs.declared.fault.Position.{Position}
@@ -8,14 +8,11 @@ use Rattle.dayfile.specs.declared.fault.RecordFault.TheVariants.{File, BadName}
 use Rattle.dayfile.specs.declared.reader.Reader.{Reader}
 use Rattle.dayfile.specs.declared.record.Record.{Record}
 use Rattle.dayfile.specs.Faults.{place, record_number, record_position}
-use Rattle.dayfile.specs.Records.{Rec, view, mark_of_record}
+use Rattle.dayfile.specs.Records.{Rec, view}
 use Rattle.dayfile.specs.Reading.{Step, end, got, bad, stands, here, place_of, Follows, Next, Fresh, Reads, ends, faulty, misnamed, goes}
-use Rattle.session.specs.declared.fault.DayFault.{DayFault}
 use Rattle.session.specs.Days.{Day, beginning}
-use Rattle.session.specs.Performing.{Performs, Turns}
-use Rattle.session.specs.Replies.{Answer}
-use Rattle.lines.specs.Lines.{record_line, fault_line}
-use Rattle.lines.specs.Listing.{Lists, lines_of, ended}
+use Rattle.lines.specs.Lines.{fault_line}
+use Rattle.lines.specs.Listing.{Lists, Got, TurnsAndTells, turn_line, lines_of, ended}
 
 abbrev pub line_of_fault : RecordFault → List ℕ
 line_of_fault f = fault_line (record_number f) (record_position f)
@@ -24,7 +21,7 @@ line_of_fault f = fault_line (record_number f) (record_position f)
 -- whole file.
 pub record Sofar (file : List ℕ) (s : Reader) (d : Day) (out : List ℕ) : Type 0 where
   pub bytes : s.file.now ≡ file
-  pub rest : (xs : List (Position × Rec)) (rs : List (Result Answer DayFault)) (f : Option RecordFault) (e : Day) → Reads file (s.count + 1) s.offset xs f → Ran Turns d xs rs e
+  pub rest : (xs : List (Position × Rec)) (rs : List Got) (f : Option RecordFault) (e : Day) → Reads file (s.count + 1) s.offset xs f → Ran TurnsAndTells d xs rs e
       → Lists file (out ++ lines_of (zip xs rs) f)
 
 pub start : (file : List ℕ) (s : Reader) (d : Day) (out : List ℕ) → Fresh file s → d ≡ beginning → out ≡ [] → Sofar file s d out
@@ -39,7 +36,7 @@ start file s d out fresh begun none = record {
         answers = rs;
         end = e;
         reads = subst (λ n. Reads file n 0 xs f) first (subst (λ p. Reads file (s.count + 1) p xs f) fresh.offset r);
-        runs = subst (λ (b : Day). Ran Turns b xs rs e) begun t;
+        runs = subst (λ (b : Day). Ran TurnsAndTells b xs rs e) begun t;
         lines = λ i. none i ++ lines_of (zip xs rs) f;
       };
 }
@@ -69,11 +66,11 @@ module _ (file : List ℕ) (s t : Reader) (d : Day) (out : List ℕ) (so : Sofar
   pub stopped : (f : RecordFault) → Next s (Err f) t → Lists file (out ++ ended (line_of_fault f))
   stopped f h = stopped' (here s) refl f h
 
-  -- the line of the record that the reader gave
-  abbrev line : Rec → Result Answer DayFault → List ℕ
-  line x r = record_line (s.count + 1) (mark_of_record x) r
+  -- the lines of the record that the reader gave
+  abbrev line : Rec → Got → List ℕ
+  line x g = turn_line (place_of s, x) g
 
-  more' : (k : Step) → here s ≡ k → (y : Record) (r : Result Answer DayFault) (e : Day) → Follows k s (Ok (Some y)) t → Performs d (view y) (place_of s) r e
+  more' : (k : Step) → here s ≡ k → (y : Record) (r : Got) (e : Day) → Follows k s (Ok (Some y)) t → TurnsAndTells d (place_of s, view y) r e
       → Sofar file t e (out ++ ended (line (view y) r))
   more' end at y r e h p = absurd (cc)
   more' (got x q) at y r e h p =
@@ -83,14 +80,14 @@ module _ (file : List ℕ) (s t : Reader) (d : Day) (out : List ℕ) (so : Sofar
         rest =
             λ xs rs f last reads runs.
             let from = subst (λ n. Reads file n q xs f) next (subst (λ p. Reads file (t.count + 1) p xs f) h.2.offset reads) in
-            let performs = subst (λ (z : Rec). Performs d z (place_of s) r e) h.1 p in
+            let performs = subst (λ (z : Rec). TurnsAndTells d (place_of s, z) r e) h.1 p in
             let same = append_assoc out (ended (line (view y) r)) (lines_of (zip xs rs) f) ∙ (λ i. out ++ (ended (line (h.1 i) r) ++ lines_of (zip xs rs) f)) in
             subst (Lists file) (sym same) (so.rest ((place_of s, x) ∷ xs) (r ∷ rs) f last (goes x q (stands_at (got x q) at) h.0 from) (Ran.more performs runs));
       }
   more' (bad f) at y r e h p = absurd (cc)
 
-  pub more : (y : Record) (r : Result Answer DayFault) (e : Day) → Next s (Ok (Some y)) t → Performs d (view y) (place_of s) r e
-      → Sofar file t e (out ++ ended (record_line (s.count + 1) (mark_of_record (view y)) r))
+  pub more : (y : Record) (r : Got) (e : Day) → Next s (Ok (Some y)) t → TurnsAndTells d (place_of s, view y) r e
+      → Sofar file t e (out ++ ended (turn_line (place_of s, view y) r))
   more y r e h p = more' (here s) refl y r e h p
 
   counts : (k : Step) (y : Record) → Follows k s (Ok (Some y)) t → t.count ≡ s.count + 1

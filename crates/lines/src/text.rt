@@ -2,11 +2,12 @@
 ghost use Rattle.std.specs.Prelude.{◌≡◌, IfOk, string_bytes};
 ghost use Rattle.dayfile.specs.Faults.{record_number, record_position};
 ghost use Rattle.session.specs.Replies.{answer_of, figures as figures_told, told};
-ghost use Rattle.lines.specs.Lines.{fault_line, record_line, reply_line};
+ghost use Rattle.lines.specs.Lines.{fault_line, pallets_of, record_line, reply_line, run_line};
 
 use dayfile::fault::RecordFault;
 use dayfile::mark::Mark;
 use dayfile::name::text_of;
+use run_sheet::Leg;
 use session::fault::DayFault;
 use session::reply::Reply;
 use std::alloc::{AllocError, Global};
@@ -56,6 +57,28 @@ fn figures_line(heap: Global, nth: usize, mark: Mark, figures: &[u64]) -> Result
     let mut line = format!(in heap; "{nth} {mark} ok")?;
     for figure in figures {
         write!(line, " {figure}")?;
+    }
+    Ok(line)
+}
+
+// How many pallets go together.
+fn pallets_of(legs: &[Leg]) -> u32
+    ensures { result ≡ pallets_of legs.now }
+{
+    match legs {
+        [] => 0,
+        [leg, ..] => leg.pallets,
+    }
+}
+
+// The line of a run.
+pub fn run_line(heap: Global, legs: &[Leg]) -> Result<String, AllocError>
+    ensures { IfOk result (λ s. string_bytes s ≡ run_line legs.now) }
+{
+    let pallets = pallets_of(legs);
+    let mut line = format!(in heap; "{pallets}:")?;
+    for leg in legs {
+        write!(line, " {}@{}", leg.lane, leg.period)?;
     }
     Ok(line)
 }

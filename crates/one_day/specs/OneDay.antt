@@ -1,5 +1,5 @@
 -- A file has one day.
-use Rattle.std.specs.Prelude.{◌≡◌, ℕ, List, Result}
+use Rattle.std.specs.Prelude.{◌≡◌, ℕ, List, Result, map}
 use Rattle.dayfile.specs.declared.fault.Position.{Position}
 use Rattle.dayfile.specs.Records.{Rec}
 use Rattle.session.specs.declared.fault.DayFault.{DayFault}
@@ -13,6 +13,11 @@ abbrev pub OneAnswer : Type 0
 OneAnswer =
     (d e u : Day) (x : Rec) (at : Position) (r q : Result Answer DayFault) → Performs d x at r e → Performs d x at q u → (r ≡ q) × (e ≡ u)
 
--- A file has one text.
-abbrev pub OneText : Type 0
-OneText = (file a b : List ℕ) → Lists file a → Lists file b → a ≡ b
+-- Two texts of a file tell the same records, with the same answers, and the same fault: they differ in the lines of runs alone.
+pub record Alike {file a b : List ℕ} (x : Lists file a) (y : Lists file b) : Type 0 where
+  pub records : x.records ≡ y.records
+  pub answers : map (λ g. g.0) x.answers ≡ map (λ g. g.0) y.answers
+  pub fault : x.fault ≡ y.fault
+
+abbrev pub OneDay : Type 0
+OneDay = (file a b : List ℕ) (x : Lists file a) (y : Lists file b) → Alike x y

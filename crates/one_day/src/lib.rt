@@ -1,10 +1,10 @@
 // A file has one day: the theorem in the contract below.
 #![tactic(auto)]
 
-ghost use Rattle.one_day.specs.OneDay.{OneAnswer, OneText};
+ghost use Rattle.one_day.specs.OneDay.{OneAnswer, OneDay};
 
-// A record has one answer on a day and leaves one day, and so a file has one text.
+// A record has one answer on a day and leaves one day, and so two texts of a file differ in the lines of runs alone.
 pub fn one_day()
     ensures answer { OneAnswer }
-    ensures text { OneText }
+    ensures day { OneDay }
 {}

@@ -4,3 +4,4 @@ pub mod Faults
 pub mod Names
 pub mod Performing
 pub mod Replies
+pub mod Sheets

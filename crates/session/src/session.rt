@@ -4,6 +4,7 @@ use board::Board;
 
 mod making;
 mod performing;
+mod sheets;
 
 // The board, whether a record has opened it, and the names of the yards.
 #[derive(Drop)]
