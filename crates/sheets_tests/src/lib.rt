@@ -20,6 +20,7 @@ pub fn laid_out(board: &Board, loads: &mut [u32])
 mod tests {
     use board::Board;
     use cut_sheet::{Inside, periods_inside};
+    use ranking::DepotOrder;
     use refusals::Refusal::{self, BadHorizon, BadYard, ListTooShort};
     use run_sheet::{Leg, RunSheet, all_runs};
     use slips::moves::Act::{Book, TearUp};
@@ -220,6 +221,29 @@ mod tests {
         check_cuts(&rt, 2, &marks, 1, &first);
         check_cuts(&rt, 2, &marks, 31, &[(0, 1, 0), (1, 1, 0), (2, 0, 3)]);
         check_cuts(&rt, 2, &marks, 0, &[(0, 0, 3)]);
+        Ok(())
+    }
+
+    // The quote of the day that docs/sheets.md shows: 3 pallets are owed at the depot 3, and 3 further ones can come to 2.
+    #[test]
+    fn cuts_of_a_quote(rt: HostRuntime) -> Result<(), Fail> {
+        let mut board = Board::new(rt.alloc())?;
+        board.open(3, 0)?;
+        board.add_lane(lane(0, 1, 1), 3)?;
+        board.add_lane(lane(1, 2, 1), 2)?;
+        board.add_lane(lane(1, 3, 1), 2)?;
+        board.name_depot(2)?;
+        board.name_depot(3)?;
+        assert_eq!(rt; book(&mut board, 3, 3), Ok(()));
+        let mut figures = [0u64; 2];
+        let mut marks = [0u8; 128];
+        board.quote(DepotOrder, &mut figures, &mut marks)?;
+        assert_eq!(rt; figures, [3, 0]);
+        let origin = [(0, 2, 0), (1, 2, 0), (2, 2, 0), (3, 0, 4)];
+        check_cuts(&rt, 3, &marks, 0, &origin);
+        check_cuts(&rt, 3, &marks, 1, &[(0, 2, 1), (1, 0, 4), (2, 0, 4)]);
+        check_cuts(&rt, 3, &marks, 2, &[(0, 2, 2), (1, 0, 4), (2, 0, 4)]);
+        check_cuts(&rt, 3, &marks, 3, &[(0, 2, 2), (1, 0, 4), (2, 0, 4)]);
         Ok(())
     }
 
