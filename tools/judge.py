@@ -1,15 +1,16 @@
 #!/usr/bin/env python3
 """Judges what the program `day` prints, from the definitions alone.
 
-    python3 tools/judge.py PROGRAM [--seed N] [--cases N] [--full N] [--jobs N] [--no-runs] [--keep FOLDER]
+    python3 tools/judge.py PROGRAM [--seed N] [--cases N] [--full N] [--jobs N] [--keep FOLDER]
     python3 tools/judge.py PROGRAM --only FILE...      judges the program on these day files
+    python3 tools/judge.py PROGRAM --marks MARKS ...   judges the program MARKS too, which prints the marks of each quote
     python3 tools/judge.py --expect FILE               prints what the file is to be answered, without runs
+    python3 tools/judge.py --expect-marks FILE         prints what MARKS is to print for the file
     python3 tools/judge.py --self [--seed N]           tries the judge itself on boards whose answers are found in other ways
 
 It makes day files by the seed (N cases, and N more on boards of full size), runs the program on each, and compares all that it
 prints. It prints how many lines of each kind were compared and each disagreement, with a small file that shows it, in
-hexadecimal; the exit status is 1 if there is one. --no-runs accepts a program that prints no runs yet. --keep puts the files of
-disagreements into a folder.
+hexadecimal; the exit status is 1 if there is one. --keep puts the files of disagreements into a folder.
 
 Nothing here is taken from the program: no code, no reduction of the board, no shortcut from one question to the next. Each
 question is asked of the network of all 32 yards and all periods, and each k gets a greatest flow of its own, from nothing. Each
@@ -35,6 +36,15 @@ A quote
     rank below k leads to the sink without limit. The greatest flow is all owed and F_k together, since a flow that brings all
     owed can be made greatest without bringing less of it. Without any such place it tells whether all owed can be delivered at
     all.
+
+Marks
+    A place is live when it is as far from the origin in time as the shortest way needs, and a depot can still be reached from it.
+    A cut for k is a set of live places with each one of the origin and no depot's place of a rank below k. It is as wide as the
+    capacities of the departures that lead out of it to live places, and what is owed at each depot that has a live place in it.
+    The mark of a live place counts the k from 0 to the number of ranks for which the place is in the smallest cut that is only as
+    wide as all owed and F_k together; other places have the mark 0. That smallest cut is what the source still reaches when the
+    greatest flow is on its way. MARKS prints a line for each quote that is not turned away: the number of its record, and
+    yard@period:mark for each mark above 0.
 
 Calls and their refusals
     HZ horizon origin           opens the board: 1 horizon not 1 to 47, 2 yard above 31
@@ -103,6 +113,17 @@ class Network:
         self.certify(source, sink, capacity, room, steps, value)
         self.left = room
         return value
+
+    def reached(self, source):
+        """The nodes to which the flow of the last question leaves a way with room."""
+        found, front, heads = {source}, [source], self.heads
+        while front:
+            node = front.pop()
+            for e in self.out[node]:
+                if self.left[e] and heads[e] not in found:
+                    found.add(heads[e])
+                    front.append(heads[e])
+        return found
 
     def steps_to(self, sink, source, room):
         """The fewest arcs with room from each node to the sink, -1 where there is no way (or none as short as the source's)."""
@@ -183,7 +204,7 @@ class Board:
         self.lanes, self.capacity = [], []  # (from, to, transit), and the capacity of each departure by its period
         self.depots, self.holds = [], []  # yards in their order; [place of the depot in it, pallets, where the slip stands]
         self.network = None  # the network, until the board changes
-        self.known = {}  # figures by ranking, until the board changes
+        self.known = {}  # figures and marks by ranking, until the board changes
 
     def changed(self):
         self.network = None
@@ -227,13 +248,39 @@ class Board:
         net, source, sink, _ = self.whole_network(owed, capacity)
         return net.greatest(source, sink) == sum(owed)
 
-    def figures(self, ranking):
-        """A question asked twice of the same board is worked out once."""
+    def quoted(self, ranking):
+        """The figures, and for each k the live places in the smallest cut. What is asked twice of a board is worked out once."""
         if ranking not in self.known:
             count = len(self.depots) if ranking == 0 else self.horizon + 1
-            most = [self.further(lambda j, t: (j, t)[ranking] < k) for k in range(count + 1)]
-            self.known[ranking] = [b - a for a, b in zip(most, most[1:])]
+            live, most, cuts = self.live_places(), [], []
+            for k in range(count + 1):
+                most.append(self.further(lambda j, t: (j, t)[ranking] < k))
+                net, source, _, _ = self.network
+                cuts.append(net.reached(source) & live)
+            self.known[ranking] = [b - a for a, b in zip(most, most[1:])], cuts
         return self.known[ranking]
+
+    def figures(self, ranking):
+        return self.quoted(ranking)[0]
+
+    def marks(self, ranking):
+        """The marks above 0, by place."""
+        return collections.Counter(place for cut in self.quoted(ranking)[1] for place in cut)
+
+    def far(self, starts, forth):
+        """The smallest sum of transit times to each yard from the nearest start along the lanes, or to it against them."""
+        distance = dict.fromkeys(starts, 0)
+        for _ in range(YARDS):
+            for lane in self.lanes:
+                near, away = (lane[0], lane[1]) if forth else (lane[1], lane[0])
+                if near in distance:
+                    distance[away] = min(distance.get(away, UNLIMITED), distance[near] + lane[2])
+        return distance
+
+    def live_places(self):
+        come, go = self.far([self.origin], True), self.far(self.depots, False)
+        periods = self.horizon + 1
+        return {yard * periods + t for yard in come if yard in go for t in range(come[yard], periods - go[yard])}
 
     # Each call gives "ok", with what it says, or "no" with the number. The rules stand in the order of their numbers.
 
@@ -371,7 +418,8 @@ def read_record(file, at):
     return mark, (file[at + 2], name.decode("ascii")), size
 
 
-Due = collections.namedtuple("Due", "line kind sheet")  # a line that is due, its kind, and for RS the board as the runs find it
+# A line that is due, its kind, for RS the board as the runs find it, and for QT the line of its marks
+Due = collections.namedtuple("Due", "line kind sheet marks", defaults=(None, None))
 
 
 def sheet_of(board):
@@ -381,7 +429,7 @@ def sheet_of(board):
 def due_lines(file):
     """Each line that the file is to be answered."""
     if len(file) > LONGEST:
-        yield Due("0 ?? no 10 at 0", "?? no 10", None)
+        yield Due("0 ?? no 10 at 0", "?? no 10")
         return
     day, at = Day(), 0
     for nth in itertools.count(1):
@@ -389,13 +437,21 @@ def due_lines(file):
             return
         record = read_record(file, at)
         if isinstance(record, int):
-            yield Due(f"{nth} ?? no {record} at {at}", f"?? no {record}", None)
+            yield Due(f"{nth} ?? no {record} at {at}", f"?? no {record}")
             return
         mark, fields, size = record
         said = day.perform(mark, fields)
         kind = f"{mark} {said if said.startswith('no') else 'ok'}"
-        yield Due(f"{nth} {mark} {said}", kind, sheet_of(day.board) if (mark, said) == ("RS", "ok") else None)
+        sheet = sheet_of(day.board) if kind == "RS ok" else None
+        marks = marks_line(nth, day.board, *fields) if kind == "QT ok" else None
+        yield Due(f"{nth} {mark} {said}", kind, sheet, marks)
         at += size
+
+
+def marks_line(nth, board, ranking):
+    periods = board.horizon + 1
+    marks = sorted(board.marks(ranking).items())
+    return f"{nth}" + "".join(f" {place // periods}@{place % periods}:{mark}" for place, mark in marks)
 
 
 # --- comparing ----------------------------------------------------------------------------------------------------------------
@@ -405,11 +461,9 @@ RUN = re.compile(f"({NUMBER}):((?: {NUMBER}@{NUMBER})+)$")
 RUN_BEGINS = re.compile("[0-9]*:")
 
 
-def run_fault(sheet, lines, none_yet):
+def run_fault(sheet, lines):
     """What is wrong with the runs of a run sheet, or None."""
     horizon, origin, lanes, capacity, depots, owed = sheet
-    if not lines and none_yet:
-        return None
     loads, delivered = collections.Counter(), [0] * len(depots)
     for line in lines:
         match = RUN.match(line)
@@ -452,18 +506,36 @@ def run_program(program, file):
     return None, done.stdout
 
 
-def compare(program, file, none_yet, counts):
+def lines_of(program, file):
+    """What is wrong with the program or its last line, or None; and its lines."""
+    fault, text = run_program(program, file)
+    if not fault and text and not text.endswith(b"\n"):
+        fault = "the last line has no end"
+    return fault, text.decode("latin-1").split("\n")[:-1]
+
+
+def compare_marks(program, file, dues, counts):
+    """The first disagreement on the marks of a file's quotes, or None."""
+    fault, lines = lines_of(program, file)
+    if fault:
+        return f"marks: {fault}"
+    wanted = [due.marks for due in dues if due.marks]
+    for due, line in itertools.zip_longest(wanted, lines):
+        if due != line:
+            return f"marks: wanted {due!r}, printed {line!r}"
+    counts["marks"] += len(lines)
+    return None
+
+
+def compare(programs, file, counts):
     """The first disagreement on a file, or None. The lines of each kind that agree are counted."""
     begin = time.time()
-    fault, text = run_program(program, file)
+    fault, lines = lines_of(programs[0], file)
     counts["slowest"] = max(counts["slowest"], time.time() - begin)
     if fault:
         return fault
-    if text and not text.endswith(b"\n"):
-        return "the last line has no end"
-    lines = text.decode("latin-1").split("\n")[:-1]
-    at = 0
-    for due in due_lines(file):
+    at, dues = 0, list(due_lines(file))
+    for due in dues:
         if at == len(lines) or lines[at] != due.line:
             return f"wanted {due.line!r}, printed {lines[at]!r}" if at < len(lines) else f"wanted {due.line!r}, printed no more"
         counts[due.kind] += 1
@@ -472,12 +544,14 @@ def compare(program, file, none_yet, counts):
             first = at
             while at < len(lines) and RUN_BEGINS.match(lines[at]):
                 at += 1
-            fault = run_fault(due.sheet, lines[first:at], none_yet)
+            fault = run_fault(due.sheet, lines[first:at])
             if fault:
                 return f"after {due.line!r}: {fault}"
             counts["run"] += at - first
             counts["sheet"] += any(due.sheet[5])
-    return f"{lines[at]!r} is printed after all that was wanted" if at < len(lines) else None
+    if at < len(lines):
+        return f"{lines[at]!r} is printed after all that was wanted"
+    return compare_marks(programs[1], file, dues, counts) if programs[1] else None
 
 
 # --- a small file that shows a disagreement -----------------------------------------------------------------------------------
@@ -1053,6 +1127,39 @@ def figures_by_search(board, ranking):
     return [b - a for a, b in zip([0] + most, most)], count == 0 or tuple(most) in reached
 
 
+def width(board, cut):
+    """How wide a cut is, by its definition."""
+    periods, live = board.horizon + 1, board.live_places()
+    total = 0
+    for (tail, head, transit), loads in zip(board.lanes, board.capacity):
+        for t, most in enumerate(loads):
+            if tail * periods + t in cut and head * periods + t + transit in live - cut:
+                total += most
+    for yard, pallets in zip(board.depots, board.owed()):
+        if any(yard * periods + t in cut for t in range(periods)):
+            total += pallets
+    return total
+
+
+def marks_by_all_cuts(board, ranking):
+    """The marks from all cuts of a tiny board, one k after another: a cut that is full, and lies inside all that are. None if
+    there are too many cuts."""
+    periods, live = board.horizon + 1, board.live_places()
+    marks, figures = collections.Counter(), board.figures(ranking)
+    for k in range(len(figures) + 1):
+        must = {place for place in live if place // periods == board.origin}
+        never = {yard * periods + t for j, yard in enumerate(board.depots) for t in range(periods) if (j, t)[ranking] < k}
+        free = sorted(live - must - never)
+        if len(free) > 9:
+            return None
+        cuts = [must.union(some) for n in range(len(free) + 1) for some in itertools.combinations(free, n)]
+        full = [cut for cut in cuts if width(board, cut) == sum(board.owed()) + sum(figures[:k])]
+        smallest = set.intersection(*full)
+        assert smallest in full and min(width(board, cut) for cut in cuts) == width(board, smallest)
+        marks.update(smallest)
+    return marks
+
+
 def arrivals_by_ways(board):
     """The figures by period where nothing is owed and no departure was set: by successive shortest ways through the yards, each
     of which is used again in each period as long as it arrives by the end."""
@@ -1166,7 +1273,7 @@ def run_trial(seed, rounds):
             maker.telling_hold()
         runs = runs_of(maker.board)
         sheet = sheet_of(maker.board)
-        said = run_fault(sheet, run_lines(runs), False)
+        said = run_fault(sheet, run_lines(runs))
         tried += 1
         if said:
             faults += 1
@@ -1174,49 +1281,69 @@ def run_trial(seed, rounds):
         if runs:
             tried += 1
             worse = spoiled(rng, runs)
-            if run_fault(sheet, run_lines(worse), False) is None:
+            if run_fault(sheet, run_lines(worse)) is None:
                 faults += 1
                 print(f"runs {number}: spoiled runs pass: {worse}")
     print(f"the judge itself: {tried} run sheets, {faults} faults")
     return faults
 
 
+def is_refused_rightly(board, yard, pallets):
+    """Whether no plan of a tiny board delivers all owed with this hold."""
+    trial = Board(board.horizon, board.origin)
+    trial.lanes, trial.capacity, trial.depots = board.lanes, board.capacity, board.depots
+    trial.holds = board.holds + [[board.depots.index(yard), pallets, "pinned"]]
+    return figures_by_search(trial, 0) is None
+
+
+def tiny_trial(seed, number, told):
+    """One tiny board by all plans, splits and cuts, with exact holds."""
+    rng = random.Random(f"{seed} self {number}")
+    board = tiny_board(rng)
+    for _ in range(rng.randint(0, 3)):
+        yard, pallets = rng.choice(board.depots), rng.randint(1, 3)
+        if board.hold(yard, pallets) == "no 18":
+            told["refusals"] += 1
+            told["faults"] += not is_refused_rightly(board, yard, pallets)
+    for ranking in (0, 1):
+        found = figures_by_search(board, ranking)
+        told["figures"] += 1
+        if found != (board.figures(ranking), True):
+            told["faults"] += 1
+            print(f"self {number}: ranking {ranking}: flows {board.figures(ranking)}, all plans {found}")
+        found = marks_by_all_cuts(board, ranking)
+        told["marks"] += found is not None
+        if found not in (None, board.marks(ranking)):
+            told["faults"] += 1
+            print(f"self {number}: ranking {ranking}: marks {board.marks(ranking)}, by all cuts {found}")
+
+
+def ways_trial(seed, number, told):
+    """One larger board by shortest ways."""
+    maker = Maker(random.Random(f"{seed} ways {number}"))
+    rng = maker.rng
+    yards = rng.sample(range(YARDS), rng.randint(4, 14))
+    maker.put("HZ", rng.randint(1, LAST_PERIOD), yards[0])
+    for lane in good_lanes(rng, yards, maker.board.horizon, rng.randint(4, 40)):
+        maker.put("LN", *lane)
+    for yard in yards[-rng.randint(1, 3):]:
+        maker.put("DP", yard)
+    told["figures"] += 1
+    if maker.board.figures(1) != arrivals_by_ways(maker.board):
+        told["faults"] += 1
+        print(f"ways {number}: flows {maker.board.figures(1)}, ways {arrivals_by_ways(maker.board)}")
+
+
 def self_trial(seed, rounds):
-    """Tiny boards by all plans and splits, with exact holds; larger ones by shortest ways. Gives the number of faults."""
-    faults = compared = refused = 0
+    """Tries the judge's own answers. Gives the number of faults."""
+    told = collections.Counter()
     for number in range(rounds):
-        rng = random.Random(f"{seed} self {number}")
-        board = tiny_board(rng)
-        for _ in range(rng.randint(0, 3)):
-            yard, pallets = rng.choice(board.depots), rng.randint(1, 3)
-            said = board.hold(yard, pallets)
-            if said == "no 18":
-                refused += 1
-                trial = Board(board.horizon, board.origin)
-                trial.lanes, trial.capacity, trial.depots = board.lanes, board.capacity, board.depots
-                trial.holds = board.holds + [[board.depots.index(yard), pallets, "pinned"]]
-                faults += figures_by_search(trial, 0) is not None
-        for ranking in (0, 1):
-            found = figures_by_search(board, ranking)
-            compared += 1
-            if found != (board.figures(ranking), True):
-                faults += 1
-                print(f"self {number}: ranking {ranking}: flows {board.figures(ranking)}, all plans {found}")
+        tiny_trial(seed, number, told)
     for number in range(rounds // 5):
-        maker = Maker(random.Random(f"{seed} ways {number}"))
-        rng = maker.rng
-        yards = rng.sample(range(YARDS), rng.randint(4, 14))
-        maker.put("HZ", rng.randint(1, LAST_PERIOD), yards[0])
-        for lane in good_lanes(rng, yards, maker.board.horizon, rng.randint(4, 40)):
-            maker.put("LN", *lane)
-        for yard in yards[-rng.randint(1, 3):]:
-            maker.put("DP", yard)
-        compared += 1
-        if maker.board.figures(1) != arrivals_by_ways(maker.board):
-            faults += 1
-            print(f"ways {number}: flows {maker.board.figures(1)}, ways {arrivals_by_ways(maker.board)}")
-    print(f"the judge itself: {compared} lists of figures compared, {refused} refusals 18 looked into, {faults} faults")
-    return faults + run_trial(seed, rounds // 2)
+        ways_trial(seed, number, told)
+    print(f"the judge itself: {told['figures']} lists of figures and {told['marks']} of marks compared, "
+          f"{told['refusals']} refusals 18 looked into, {told['faults']} faults")
+    return told["faults"] + run_trial(seed, rounds // 2)
 
 
 # --- the command --------------------------------------------------------------------------------------------------------------
@@ -1226,10 +1353,10 @@ SHOWN = 12  # disagreements for which a small file is looked for
 
 def judge_case(task):
     """Judges one case: its kind, the counts, its file, and the disagreement, if there is one."""
-    program, seed, number, is_full, none_yet = task
+    programs, seed, number, is_full = task
     kind, file = make_case(seed, number, is_full)
     counts = collections.Counter()
-    return kind, number, counts, file, compare(program, file, none_yet, counts)
+    return kind, number, counts, file, compare(programs, file, counts)
 
 
 def records_of(file):
@@ -1244,7 +1371,7 @@ def tell(options, name, file, said, to_be_shrunk):
     files = [(f"{name}.day", file)]
     if to_be_shrunk:
         def judge(small_file):
-            return compare(options.program, small_file, options.no_runs, collections.Counter())
+            return compare((options.program, options.marks), small_file, collections.Counter())
         small_file = shrink(file, judge)
         hexadecimal = small_file.hex()
         print(f"  small file, {len(small_file)} bytes: {hexadecimal[:8000]}{'...' * (len(hexadecimal) > 8000)}")
@@ -1269,7 +1396,7 @@ def print_counts(counts):
 def judge_all(options):
     """Judges all cases, and prints the counts. Gives the number of disagreements."""
     begin = time.time()
-    tasks = [(options.program, options.seed, n, is_full, options.no_runs)
+    tasks = [((options.program, options.marks), options.seed, n, is_full)
              for is_full, many in ((True, options.full), (False, options.cases)) for n in range(many)]
     counts, kinds, wrong, slowest = collections.Counter(), collections.Counter(), 0, 0
     with multiprocessing.Pool(options.jobs) as pool:
@@ -1280,10 +1407,11 @@ def judge_all(options):
             if said:
                 wrong += 1
                 tell(options, f"{kind}-{number}", file, said, wrong <= SHOWN)
-    runs, owing = counts.pop("run", 0), counts.pop("sheet", 0)
+    runs, owing, marked = counts.pop("run", 0), counts.pop("sheet", 0), counts.pop("marks", 0)
     print(f"seed {options.seed}: {sum(kinds.values())} files: " + ", ".join(f"{n} {kind}" for kind, n in sorted(kinds.items())))
     print_counts(counts)
-    print(f"  runs {runs}, in {owing} run sheets for pallets owed; the program's slowest file took {slowest:.2f} s")
+    print(f"  runs {runs}, in {owing} run sheets for pallets owed; quotes whose marks were compared: {marked}")
+    print(f"  the program's slowest file took {slowest:.2f} s")
     print(f"{sum(counts.values())} lines compared, {wrong} disagreements, {time.time() - begin:.0f} s")
     return wrong
 
@@ -1293,7 +1421,7 @@ def judge_files(options):
     for name in options.only:
         with open(name, "rb") as stream:
             file = stream.read()
-        said = compare(options.program, file, options.no_runs, collections.Counter())
+        said = compare((options.program, options.marks), file, collections.Counter())
         wrong += said is not None
         print(f"{name}: {said or 'agrees'}")
     return wrong
@@ -1306,18 +1434,21 @@ def main():
     parser.add_argument("--cases", type=int, default=2000)
     parser.add_argument("--full", type=int, default=4)
     parser.add_argument("--jobs", type=int, default=1)
-    parser.add_argument("--no-runs", action="store_true")
+    parser.add_argument("--marks")
     parser.add_argument("--keep")
     parser.add_argument("--only", nargs="+")
     parser.add_argument("--expect")
+    parser.add_argument("--expect-marks")
     parser.add_argument("--self", action="store_true")
     options = parser.parse_args()
     if options.self:
         return 1 if self_trial(options.seed, options.cases) else 0
-    if options.expect:
-        with open(options.expect, "rb") as stream:
+    if options.expect or options.expect_marks:
+        with open(options.expect or options.expect_marks, "rb") as stream:
             for due in due_lines(stream.read()):
-                print(due.line)
+                line = due.line if options.expect else due.marks
+                if line is not None:
+                    print(line)
         return 0
     if not options.program:
         parser.error("which program?")
