@@ -4,7 +4,7 @@ use Rattle.refusals.specs.declared.Refusal.{Refusal}
 use Rattle.refusals.specs.declared.Refusal.TheVariants.{NoPlan}
 use Rattle.refusals.specs.Refusals.{Rule, rule, Decides}
 use Rattle.refusals.specs.Runs.{Ran}
-use Rattle.refusals.proofs.Decided.{decides_next}
+use Rattle.refusals.proofs.Decided.{decides_one, decides_next}
 use Rattle.refusals.proofs.Runs.{moment, at_first, before, rest, always, each}
 use Rattle.roads.specs.Rules.{capacity_rules}
 use Rattle.slips.specs.declared.slip.Slip.{Slip}
@@ -15,7 +15,6 @@ use Rattle.board.specs.States as board
 use Rattle.board_runs.specs.Asks.{Ask, Reply, add_lane, name_depot, set_departure, hold, pick_up, spend, quote, held, done, quoted, refused}
 use Rattle.board_runs.specs.Laws.{Makes, Exactly, Judged, Rightly, Kept}
 use Rattle.board_runs.specs.Steps.{World, Moment, Step, Accepted, Answered, ranking_on, turned_away}
-use Rattle.board_runs.proofs.Worlds.{decides_one}
 
 -- a reply is the refusal that was due, and no other
 same_refusal : (a : Reply) (why how : Refusal) → a ≡ refused why → a ≡ refused how → how ≡ why

@@ -1,16 +1,9 @@
--- Rules leave no choice, and so calls make one world.
-use Rattle.std.proofs.Common.{◌≡◌, List, [], ◌∷◌, Option, sym, refl, ◌∙◌, subst, inl, inr}
+-- Calls make one world, since rules leave no choice.
+use Rattle.std.proofs.Common.{[], ◌∷◌, Option, refl, subst}
 use Rattle.refusals.specs.declared.Refusal.{Refusal}
-use Rattle.refusals.specs.Refusals.{Rule, Decides}
+use Rattle.refusals.proofs.Decided.{decides_one}
 use Rattle.board_runs.specs.Laws.{Makes, OneWorld}
 use Rattle.board_runs.specs.Steps.{after, rules_of}
-
-pub decides_one : (xs : List Rule) (a b : Option Refusal) → Decides xs a → Decides xs b → a ≡ b
-decides_one [] a b d e = d ∙ sym e
-decides_one (x ∷ xs) a b (inl d) (inl e) = d.1 ∙ sym e.1
-decides_one (x ∷ xs) a b (inl d) (inr e) = absurd (e.0 d.0)
-decides_one (x ∷ xs) a b (inr d) (inl e) = absurd (d.0 e.0)
-decides_one (x ∷ xs) a b (inr d) (inr e) = decides_one xs a b d.1 e.1
 
 pub one_world : OneWorld
 one_world w u v [] Makes.nothing Makes.nothing = refl

@@ -4,7 +4,7 @@ use Rattle.std.specs.List.{slice_get}
 use Rattle.timetable.specs.declared.Lane.{Lane}
 use Rattle.refusals.specs.declared.Refusal.{Refusal}
 use Rattle.refusals.specs.Refusals.{Rule, rule, Decides}
-use Rattle.board_runs.proofs.Worlds.{decides_one}
+use Rattle.refusals.proofs.Decided.{decides_one}
 use Rattle.roads.specs.Rules.{opening_rules}
 use Rattle.slips.specs.declared.moves.Act.{Act}
 use Rattle.slips.specs.declared.moves.Act.TheVariants.{Pin}

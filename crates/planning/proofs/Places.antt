@@ -1,12 +1,10 @@
--- A list that is written place by place: where the periods go from 0 to h, the place y@t stands at y × (h + 1) + t.
-use Rattle.std.proofs.Common.{◌≡◌, ℕ, suc, ◌+◌, ◌*◌, ◌/◌, ◌%◌, ◌<◌, ◌≤◌, List, get_or, ◌∙◌, ap₂, arith}
+-- A list that is a table of rows, each of w entries: entry t of row r stands at r × w + t.
+use Rattle.std.proofs.Common.{◌≡◌, ℕ, ◌+◌, ◌*◌, ◌/◌, ◌%◌, ◌<◌, List, slice_index, ◌∙◌, ap₂, arith}
 use Rattle.std.proofs.lemmas.Nat.{div-mul-add, mod-mul-add, mul-add-lt}
 
-pub place_low : (h y t : ℕ) → y < 32 → t ≤ h → y * suc h + t < 32 * suc h
-place_low h y t l m = let n : t < suc h = omega arith in omega (arith, mul-add-lt y (suc h) t 32 l n)
+pub place_low : (rows w r t : ℕ) → r < rows → t < w → r * w + t < rows * w
+place_low rows w r t l m = omega (arith, mul-add-lt r w t rows l m)
 
--- what is written for each number is so for each place
-pub by_place : (f : ℕ → ℕ → ℕ) (ms : List ℕ) (h : ℕ) → ((k : ℕ) → k < 32 * suc h → get_or ms k 0 ≡ f (k / suc h) (k % suc h)) → (y t : ℕ) → y < 32 → t ≤ h → get_or ms (y * suc h + t) 0 ≡ f y t
-by_place f ms h told y t l m =
-    let n : t < suc h = omega arith in
-    told (y * suc h + t) (place_low h y t l m) ∙ ap₂ f (div-mul-add y (suc h) t n) (mod-mul-add y (suc h) t n)
+-- what is written for each number is so for each row and entry
+pub by_place : (rows w : ℕ) (f : ℕ → ℕ → ℕ) (xs : List ℕ) → ((k : ℕ) → k < rows * w → slice_index xs k ≡ f (k / w) (k % w)) → (r t : ℕ) → r < rows → t < w → slice_index xs (r * w + t) ≡ f r t
+by_place rows w f xs told r t l m = told (r * w + t) (place_low rows w r t l m) ∙ ap₂ f (div-mul-add r w t m) (mod-mul-add r w t m)

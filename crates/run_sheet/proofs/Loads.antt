@@ -1,27 +1,18 @@
 -- The loads of a feasible plan, laid out in a list, flow.
-use Rattle.std.proofs.Common.{◌≡◌, ℕ, suc, ◌-◌, ◌/◌, ◌%◌, ◌<◌, ◌≤◌, true, ◌&&◌, eqb, leb, List, ◌++◌, length, get_or, drop, sym, ap, ap₂, subst, ◌∙◌, arith}
+use Rattle.std.proofs.Common.{◌≡◌, ℕ, suc, ◌-◌, ◌<◌, ◌≤◌, true, ◌&&◌, eqb, leb, List, ◌++◌, length, drop, sym, ap, ◌∙◌, arith}
 use Rattle.std.proofs.lemmas.Bool.{le-leb, leb-true, lt-ltb, and_parts, and_from, cond-true, cond-false}
-use Rattle.std.proofs.lemmas.Nat.{div-mul-add, mod-mul-add, mul-add-lt}
 use Rattle.std.proofs.lemmas.List.{length-append, length-drop, get_or_append_left}
 use Rattle.std.proofs.lemmas.Slice.{drop-append-drop}
 use Rattle.flow.proofs.Sums.{total_same}
 use Rattle.timetable.proofs.Sums.{cond_same}
 use Rattle.timetable.specs.Plans.{Timetable, Sound, lane, departs, arriving, leaving, Feasible}
+use Rattle.planning.proofs.Places.{place_low}
 use Rattle.board.specs.States.{State, day}
 use Rattle.run_sheet.specs.Lists.{load_count, place_of, loads_of, Laid, Flows, Idle, Kept}
 use Rattle.run_sheet.specs.Calls.{Lays}
 
-pub place_low : (s : State) (l t : ℕ) → l < 96 → t ≤ s.grid.horizon → place_of s l t < load_count s
-place_low s l t lt le =
-    let n : t < suc s.grid.horizon = omega arith in
-    omega (arith, mul-add-lt l (suc s.grid.horizon) t 96 lt n)
-
--- what is written for each number is so for each place
-pub by_place : (s : State) (f : ℕ → ℕ → ℕ) (xs : List ℕ) (w : ℕ) → w ≡ suc s.grid.horizon → ((k : ℕ) → k < load_count s → get_or xs k 0 ≡ f (k / w) (k % w)) → (l t : ℕ) → l < 96 → t ≤ s.grid.horizon → loads_of s xs l t ≡ f l t
-by_place s f xs w e told l t lt le =
-    let n : t < suc s.grid.horizon = omega arith in
-    subst (λ (m : ℕ). loads_of s xs l t ≡ f (place_of s l t / m) (place_of s l t % m)) e (told (place_of s l t) (place_low s l t lt le))
-    ∙ ap₂ f (div-mul-add l (suc s.grid.horizon) t n) (mod-mul-add l (suc s.grid.horizon) t n)
+pub load_low : (s : State) (l t : ℕ) → l < 96 → t ≤ s.grid.horizon → place_of s l t < load_count s
+load_low s l t lt le = place_low 96 (suc s.grid.horizon) l t lt (omega arith)
 
 module _ (s : State) (sound : Sound (day s)) (plan : ℕ → ℕ → ℕ) (xs : List ℕ) (laid : Laid s plan xs) where
   abbrev S : Timetable
@@ -63,7 +54,7 @@ module _ (s : State) (plan : ℕ → ℕ → ℕ) (xs xs' : List ℕ) (same : le
       let count : length ys ≡ n = omega (arith, ap length made, length-append ys (drop n xs), length-drop n xs) in
       record {
         long = same;
-        laid = λ _. λ l t lt le. rw made (get_or_append_left ys (drop n xs) 0 (place_of s l t) (omega (arith, place_low s l t lt le)) ∙ laid l t lt le);
+        laid = λ _. λ l t lt le. rw made (get_or_append_left ys (drop n xs) 0 (place_of s l t) (omega (arith, load_low s l t lt le)) ∙ laid l t lt le);
         past = ap (drop (load_count s)) made ∙ drop-append-drop n xs ys (load_count s) (omega (arith, e)) count;
         short = λ short. absurd (omega arith);
       }

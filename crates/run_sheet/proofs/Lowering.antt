@@ -9,7 +9,7 @@ use Rattle.run_sheet.specs.Lists.{load_count, place_of, loads_of}
 use Rattle.run_sheet.specs.Runs.{carried}
 use Rattle.run_sheet.specs.Taking.{Ready, Taken, with_pallets}
 use Rattle.run_sheet.proofs.Carrying.{one}
-use Rattle.run_sheet.proofs.Loads.{place_low}
+use Rattle.run_sheet.proofs.Loads.{load_low}
 
 -- Of the legs some wait still; the others are written, and the loads have fallen along them.
 pub record Lowering (s : State) (x : ℕ) (legs : List Leg) (xs xs' : List ℕ) (ls ls' : List Leg) (waiting : List Leg) (n : ℕ) : Type 0 where
@@ -60,7 +60,7 @@ module _ (s : State) (x : ℕ) (legs : List Leg) (xs xs' : List ℕ) (ls ls' : L
   write = set ls' n with'
 
   low : place' < load_count s
-  low = place_low s leg.lane leg.period so.ready.2 so.ready.1
+  low = load_low s leg.lane leg.period so.ready.2 so.ready.1
 
   one_more : take (n + 1) write ≡ take n ls' ++ with' ∷ []
   one_more = take_more_set ls' n with' (omega (arith, so.count, so.long))
