@@ -1,5 +1,6 @@
-// Tests of the board at its bounds, in a crate of their own, since a crate with tests is proved twice. What is expected was worked
-// out by hand; plans, figures, marks and standing rates also by `tools/board_cases.py`.
+// Tests of the board's calls and questions, in a crate of their own, since a crate with tests is proved twice. What is expected was
+// worked out by hand; plans, figures, marks and standing rates also by `tools/board_cases.py`. The bounds of all that a day file can
+// ask for are tried by the days in examples/days.
 #![tactic(auto)]
 
 #[cfg(test)]
@@ -7,8 +8,7 @@ mod tests {
     use board::Board;
     use ranking::{DepotOrder, PeriodOrder, Ranking};
     use refusals::Refusal::{
-        self, BadCapacity, BadEnds, BadHorizon, BadPallets, BadTransit, BadYard, ListTooShort,
-        NamedBefore, NoDeparture, NoDepot, NoPlan, NoneLeft, NotAsNeeded,
+        self, BadCapacity, BadHorizon, BadYard, ListTooShort, NoPlan, NotAsNeeded,
     };
     use slips::moves::Act::{self, Book, Pin, Release, TearUp};
     use slips::moves::SlipState::{Booked, InHand, Pinned, Released};
@@ -121,29 +121,6 @@ mod tests {
         Ok(())
     }
 
-    // A lane whose transit time is the horizon departs in the period 0 alone.
-    #[test]
-    fn transit_times(rt: HostRuntime) -> Result<(), Fail> {
-        let mut board = Board::new(rt.alloc())?;
-        for horizon in [1, 3, 47] {
-            board.open(horizon, 0)?;
-            assert_eq!(rt; board.add_lane(lane(0, 1, horizon), 5), Ok(0));
-            assert_eq!(rt; board.add_lane(lane(0, 1, 0), 5), Err(BadTransit));
-            assert_eq!(rt; board.add_lane(lane(0, 1, 48), 5), Err(BadTransit));
-            assert_eq!(rt; board.lanes().len(), 1);
-            assert_eq!(rt;
-                (board.capacity(0, 0), board.load(0, 0)),
-                (Some(5), Some(0))
-            );
-            assert_eq!(rt; (board.capacity(0, 1), board.load(0, 1)), (None, None));
-            assert_eq!(rt; board.set_departure(0, 0, 6), Ok(()));
-            assert_eq!(rt; board.set_departure(0, 1, 6), Err(NoDeparture));
-            assert_eq!(rt; board.set_departure(1, 0, 6), Err(NoDeparture));
-            assert_eq!(rt; board.capacity(0, 0), Some(6));
-        }
-        Ok(())
-    }
-
     #[test]
     fn capacities(rt: HostRuntime) -> Result<(), Fail> {
         let mut board = one_lane(rt.alloc(), 3, 9999)?;
@@ -155,96 +132,6 @@ mod tests {
         assert_eq!(rt; board.set_departure(0, 2, 9999), Ok(()));
         let told = [0, 1, 2, 3].map(|period| board.capacity(0, period));
         assert_eq!(rt; told, [Some(9999), Some(0), Some(9999), None]);
-        Ok(())
-    }
-
-    #[test]
-    fn pallets(rt: HostRuntime) -> Result<(), Fail> {
-        let mut board = one_lane(rt.alloc(), 1, 9999)?;
-        assert_eq!(rt; hold(&mut board, 1, 0, Book), Err(BadPallets));
-        assert_eq!(rt; hold(&mut board, 1, 10000, Book), Err(BadPallets));
-        assert_eq!(rt; hold(&mut board, 1, 1, Release), Ok(0));
-        assert_eq!(rt; (board.owed(1), board.load(0, 0)), (0, Some(0)));
-        assert_eq!(rt; hold(&mut board, 1, 9999, Book), Ok(1));
-        assert_eq!(rt; (board.owed(1), board.load(0, 0)), (9999, Some(9999)));
-        assert_eq!(rt; hold(&mut board, 1, 1, Book), Err(NoPlan));
-        assert_eq!(rt; (board.owed(1), board.load(0, 0)), (9999, Some(9999)));
-        Ok(())
-    }
-
-    #[test]
-    fn most_lanes(rt: HostRuntime) -> Result<(), Fail> {
-        let mut board = Board::new(rt.alloc())?;
-        for number in 0..96 {
-            assert_eq!(rt; board.add_lane(lane(0, 1, 1), 1), Ok(number));
-        }
-        assert_eq!(rt; board.add_lane(lane(0, 1, 1), 1), Err(NoneLeft));
-        assert_eq!(rt; board.lanes().len(), 96);
-        assert_eq!(rt; board.name_depot(1), Ok(0));
-        assert_eq!(rt; hold(&mut board, 1, 97, Book), Err(NoPlan));
-        assert_eq!(rt; hold(&mut board, 1, 96, Book), Ok(0));
-        assert_eq!(rt; (board.load(95, 0), board.load(96, 0)), (Some(1), None));
-        Ok(())
-    }
-
-    #[test]
-    fn most_depots(rt: HostRuntime) -> Result<(), Fail> {
-        let mut board = Board::new(rt.alloc())?;
-        for order in 0..16 {
-            assert_eq!(rt; board.name_depot(31 - order), Ok(order));
-        }
-        assert_eq!(rt; board.name_depot(15), Err(NoneLeft));
-        assert_eq!(rt; board.name_depot(31), Err(NoneLeft));
-        assert_eq!(rt; board.depots().len(), 16);
-        Ok(())
-    }
-
-    #[test]
-    fn most_holds(rt: HostRuntime) -> Result<(), Fail> {
-        let mut board = one_lane(rt.alloc(), 1, 9999)?;
-        for number in 0..512 {
-            assert_eq!(rt; hold(&mut board, 1, 1, Book), Ok(number));
-        }
-        assert_eq!(rt; hold(&mut board, 32, 1, Book), Err(BadYard));
-        assert_eq!(rt; hold(&mut board, 1, 0, Book), Err(BadPallets));
-        assert_eq!(rt; hold(&mut board, 1, 1, Book), Err(NoneLeft));
-        assert_eq!(rt; hold(&mut board, 2, 1, Book), Err(NoneLeft));
-        assert_eq!(rt; (board.owed(1), board.load(0, 0)), (512, Some(512)));
-        assert_eq!(rt;
-            (board.slip_state(511), board.slip_state(512)),
-            (Some(Booked), None)
-        );
-        Ok(())
-    }
-
-    #[test]
-    fn ends_of_lanes(rt: HostRuntime) -> Result<(), Fail> {
-        let mut board = Board::new(rt.alloc())?;
-        board.open(3, 7)?;
-        assert_eq!(rt; board.add_lane(lane(1, 7, 1), 1), Err(BadEnds));
-        assert_eq!(rt; board.add_lane(lane(2, 2, 1), 1), Err(BadEnds));
-        assert_eq!(rt; board.add_lane(lane(7, 7, 1), 1), Err(BadEnds));
-        assert_eq!(rt; board.add_lane(lane(32, 1, 1), 1), Err(BadYard));
-        assert_eq!(rt; board.add_lane(lane(1, 32, 1), 1), Err(BadYard));
-        assert_eq!(rt; board.add_lane(lane(31, 0, 1), 1), Ok(0));
-        assert_eq!(rt; board.lanes(), [lane(31, 0, 1)].as_slice());
-        Ok(())
-    }
-
-    #[test]
-    fn yards_of_depots(rt: HostRuntime) -> Result<(), Fail> {
-        let mut board = Board::new(rt.alloc())?;
-        board.open(3, 7)?;
-        assert_eq!(rt; board.name_depot(7), Err(NamedBefore));
-        assert_eq!(rt; board.name_depot(32), Err(BadYard));
-        assert_eq!(rt; board.name_depot(31), Ok(0));
-        assert_eq!(rt; board.name_depot(31), Err(NamedBefore));
-        assert_eq!(rt; board.name_depot(0), Ok(1));
-        assert_eq!(rt; board.depots(), [31, 0].as_slice());
-        assert_eq!(rt; hold(&mut board, 7, 1, Book), Err(NoDepot));
-        assert_eq!(rt; hold(&mut board, 1, 1, Book), Err(NoDepot));
-        assert_eq!(rt; hold(&mut board, 32, 1, Book), Err(BadYard));
-        assert_eq!(rt; hold(&mut board, 0, 1, Book), Err(NoPlan));
         Ok(())
     }
 

@@ -1,4 +1,5 @@
-// Tests of the day-file reader, in a crate of their own, since a crate with tests is proved twice.
+// Tests of the day-file reader, in a crate of their own, since a crate with tests is proved twice. Faults and bounds of whole files
+// are tried by the days in examples/days.
 #![tactic(auto)]
 
 #[cfg(test)]
@@ -108,113 +109,6 @@ mod tests {
         },
     ];
 
-    // A file with a fault: how many records come before it, its number and the offset of its record.
-    struct Torn {
-        file: &'static [u8],
-        before: usize,
-        number: u8,
-        offset: usize,
-    }
-
-    const FAULTS: [Torn; 16] = [
-        Torn {
-            file: b"H",
-            before: 0,
-            number: 8,
-            offset: 0,
-        },
-        Torn {
-            file: b"X",
-            before: 0,
-            number: 8,
-            offset: 0,
-        },
-        Torn {
-            file: b"XX",
-            before: 0,
-            number: 7,
-            offset: 0,
-        },
-        Torn {
-            file: b"ZH\x03\x00",
-            before: 0,
-            number: 7,
-            offset: 0,
-        },
-        Torn {
-            file: b"hz\x03\x00",
-            before: 0,
-            number: 7,
-            offset: 0,
-        },
-        Torn {
-            file: b"RSR",
-            before: 1,
-            number: 8,
-            offset: 2,
-        },
-        Torn {
-            file: b"RSRXRS",
-            before: 1,
-            number: 7,
-            offset: 2,
-        },
-        Torn {
-            file: b"DP\x02LN\x00\x01\x01\x00",
-            before: 1,
-            number: 8,
-            offset: 3,
-        },
-        Torn {
-            file: b"YN\x04\x05Hull",
-            before: 0,
-            number: 8,
-            offset: 0,
-        },
-        Torn {
-            file: b"YN\x04\x00",
-            before: 0,
-            number: 9,
-            offset: 0,
-        },
-        Torn {
-            file: b"YN\x04\x19abcdefghijklmnopqrstuvwxy",
-            before: 0,
-            number: 9,
-            offset: 0,
-        },
-        Torn {
-            file: b"YN\x04\x19abcdefghijklmnopqrstuvwx",
-            before: 0,
-            number: 8,
-            offset: 0,
-        },
-        Torn {
-            file: b"QT\x00YN\x04\x02a\x1f",
-            before: 1,
-            number: 9,
-            offset: 3,
-        },
-        Torn {
-            file: b"QT\x00YN\x04\x02\x7fa",
-            before: 1,
-            number: 9,
-            offset: 3,
-        },
-        Torn {
-            file: b"YN\x04\x01\xffRS",
-            before: 0,
-            number: 9,
-            offset: 0,
-        },
-        Torn {
-            file: b"YN\x04\x00XX",
-            before: 0,
-            number: 9,
-            offset: 0,
-        },
-    ];
-
     #[test]
     fn reads_each_mark(rt: HostRuntime) -> Result<(), Fail> {
         for case in &RECORDS {
@@ -224,25 +118,6 @@ mod tests {
             let mark = case.record.mark().to_string(rt.alloc())?;
             assert_eq!(rt; mark.as_str(), case.mark);
         }
-        Ok(())
-    }
-
-    #[test]
-    fn reads_up_to_a_fault(rt: HostRuntime) -> Result<(), Fail> {
-        for case in &FAULTS {
-            let (before, fault) = first_fault(case.file);
-            let fault = fault.ok_or("a torn file was read whole")?;
-            assert_eq!(rt; before, case.before);
-            assert_eq!(rt; fault.number(), case.number);
-            assert_eq!(rt; fault.position().offset, case.offset);
-        }
-        Ok(())
-    }
-
-    #[test]
-    fn reads_names_to_their_bounds(rt: HostRuntime) -> Result<(), Fail> {
-        assert_eq!(rt; first_fault(b""), (0, None));
-        assert_eq!(rt; first_fault(b"YN\x04\x02 ~RS"), (2, None));
         Ok(())
     }
 
@@ -276,33 +151,6 @@ mod tests {
             }
         }
         (file.len(), None)
-    }
-
-    #[test]
-    fn longest_file_is_read(rt: HostRuntime) -> Result<(), Fail> {
-        let mut file = b"RS".repeat(rt.alloc(), 16384)?;
-        assert_eq!(rt; file.len(), 32768);
-        assert_eq!(rt; first_fault(file.as_slice()), (16384, None));
-        let _ = file.pop();
-        let place = Position {
-            nth: 16384,
-            offset: 32766,
-        };
-        let fault = RecordFault::File(FileFault::CutShort(place));
-        assert_eq!(rt; first_fault(file.as_slice()), (16383, Some(fault)));
-        assert_eq!(rt; fault.number(), 8);
-        assert_eq!(rt; fault.position(), place);
-        Ok(())
-    }
-
-    #[test]
-    fn one_byte_more_is_ten(rt: HostRuntime) -> Result<(), Fail> {
-        let file = vec![in rt.alloc(); b'R'; 32769]?;
-        let fault = RecordFault::File(FileFault::TooLong);
-        assert_eq!(rt; first_fault(file.as_slice()), (0, Some(fault)));
-        assert_eq!(rt; fault.number(), 10);
-        assert_eq!(rt; fault.position(), Position { nth: 0, offset: 0 });
-        Ok(())
     }
 
     // A fault keeps the reader where it is, and is met again there.
