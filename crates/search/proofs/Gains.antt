@@ -128,11 +128,12 @@ round_less N sound k f g h a b so gain some = omega (arith, gain.more, bounded N
 
 -- where nothing was pushed, what is reached is the smallest settled set and a cut
 pub round_last : (N : Network) (k : ℕ) (f g h : List ℕ) (a : ℕ) (visits : List Visit) → Gained N k f g a → Found N g visits → Unserved N k g h visits 0 N.nodes
-    → Gained N k f h a × Cut N k (reached visits) × Smallest N k h (reached visits)
+    → Gained N k f h a × Found N h visits × Cut N k (reached visits) × Smallest N k h (reached visits)
 round_last N k f g h a visits so found un =
-    let P : List ℕ → Type 0 = λ x. Gained N k f x a × Cut N k (reached visits) × Smallest N k x (reached visits) in
+    let P : List ℕ → Type 0 = λ x. Gained N k f x a × Found N x visits × Cut N k (reached visits) × Smallest N k x (reached visits) in
     subst P (sym un.same) (
       so,
+      found,
       record { source = found.reach.source; apart = λ v l b. un.away found.opened v (omega arith) l b },
       found_smallest N k g (reached visits) so.flow so.idle found.reach,
     )

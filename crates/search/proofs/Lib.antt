@@ -4,6 +4,7 @@ pub mod Linking
 pub mod Steps
 pub mod Turn
 pub mod Ways
+pub mod Entering
 pub mod Gains
 pub mod Phases
 pub mod Stamping

@@ -47,6 +47,19 @@ pub record Found (N : Network) (f : List ℕ) (visits : List Visit) : Type 0 whe
   pub tree : Tree N visits
   pub opened : Open N f visits
 
+-- another way to enter v on its level: along an arc that ends there, from a node one level below
+pub record Enters (N : Network) (visits : List Visit) (v : ℕ) (m : Visit) : Type 0 where
+  pub stays : m.level ≡ level visits v
+  pub numbered : m.arc < length N.arcs
+  pub ends : key (other m.side) N.arcs m.arc ≡ v
+  pub starts : 0 < level visits (key m.side N.arcs m.arc)
+  pub rises : level visits v ≡ level visits (key m.side N.arcs m.arc) + 1
+
+-- the nodes reached are the same, on the same levels, and form a tree again
+pub record Reentered (N : Network) (before after : List Visit) : Type 0 where
+  pub tree : Tree N after
+  pub levels : (v : ℕ) → level after v ≡ level before v
+
 -- While it goes on:
 
 abbrev pub In : ℕ → List ℕ → Type 0

@@ -5,6 +5,7 @@ ghost use Rattle.search.specs.Layouts.{laid};
 use crate::layout::Layout;
 
 mod explore;
+mod reopen;
 
 // The residual network: a network, with the load of each arc.
 // The visits and the queue, which a search writes, are parameters: a struct that holds a `&mut` obliges each method to say that

@@ -8,6 +8,7 @@ ghost use Rattle.search.specs.Visits.{reached};
 use crate::copying::{copy_arcs, copy_nodes};
 use crate::entry::{ArcEntry, NodeEntry};
 use crate::error::SearchError;
+use crate::flood::Residual;
 use crate::layout::Layout;
 use crate::rounds::saturate;
 use crate::visit::Visit;
@@ -73,6 +74,7 @@ fn serve_ranks(
     requires start { Standing (laid map) 0 loads.old marks.old figures.old }
     ensures { Standing (laid map.entry) (ranks + 1) loads.new marks.new figures.new }
 {
+    Residual { map, loads }.explore(visits, slots);
     // Over the figures the round for k = 0, which has none, would have to stand before the loop once more.
     for k in 0..ranks + 1 {
         let gained = saturate(map, k, loads, visits, slots);

@@ -5,8 +5,11 @@ ghost use Rattle.search.specs.Visits.{Tree};
 use crate::layout::Layout;
 use crate::visit::Visit;
 
+mod press;
 mod push;
 mod serve;
+
+pub(crate) use press::drain_again;
 
 // A network, with the way from its source to each node that was reached.
 // The loads, which are written, are a parameter, and that they are a flow under which only the ranks below k keep anything

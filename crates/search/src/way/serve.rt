@@ -9,7 +9,7 @@ use super::Ways;
 
 impl Ways<'_> {
     // Sends as much more to the node as the way to it has room for, and says how much that is.
-    fn augment(&self, loads: &mut [u32], node: usize) -> u32
+    pub(crate) fn augment(&self, loads: &mut [u32], node: usize) -> u32
         requires flow { Flow (laid self.now.map) loads.old }
         requires reached { 0 < level self.now.visits.now node }
         ensures gained { (k : ℕ) → Idle (laid self.now.map) k loads.old → below (laid self.now.map) k node ≡ true → Gained (laid self.now.map) k loads.old loads.new result }

@@ -1,0 +1,86 @@
+// Sending more along other ways than those by which nodes were reached.
+ghost use Rattle.std.specs.Prelude.{◌≡◌, ◌<◌, true, length};
+ghost use Rattle.flow.specs.Network.{Flow, below};
+ghost use Rattle.search.specs.Gains.{Gained, Idle};
+ghost use Rattle.search.specs.Layouts.{laid};
+ghost use Rattle.search.specs.Visits.{Reentered, Tree, level};
+
+use super::Ways;
+use crate::flood::Residual;
+use crate::layout::Layout;
+use crate::visit::Visit;
+
+// Sends more to the node, as long as a way to it is opened on the levels of the search, and says how much in all.
+// Each time an arc is filled, and stays so on these levels: that is at most as often as there are arcs.
+fn press(
+    map: Layout,
+    k: u16,
+    loads: &mut [u32],
+    visits: &mut [Visit],
+    shut: &mut [u16],
+    node: usize,
+) -> u64
+    requires flow { Flow (laid map) loads.old }
+    requires idle { Idle (laid map) k loads.old }
+    requires tree { Tree (laid map) visits.old }
+    requires shut { length shut.old ≡ (laid map).nodes }
+    requires reached { 0 < level visits.old node }
+    requires below { below (laid map) k node ≡ true }
+    ensures gained { Gained (laid map.entry) k loads.old loads.new result }
+    ensures again { Reentered (laid map.entry) visits.old visits.new }
+{
+    let mut total = 0;
+    for _ in 0..map.arcs.len() {
+        if !(Residual { map, loads }).reopen(visits, shut, node) {
+            break;
+        }
+        total += u64::from(Ways { map, visits }.augment(loads, node));
+    }
+    total
+}
+
+// Sends more to the node along other ways if it is reached and has a rank below k, and says how much.
+fn feed_again(
+    map: Layout,
+    k: u16,
+    loads: &mut [u32],
+    visits: &mut [Visit],
+    shut: &mut [u16],
+    node: usize,
+) -> u64
+    requires flow { Flow (laid map) loads.old }
+    requires idle { Idle (laid map) k loads.old }
+    requires tree { Tree (laid map) visits.old }
+    requires shut { length shut.old ≡ (laid map).nodes }
+    requires within { node < (laid map).nodes }
+    ensures gained { Gained (laid map.entry) k loads.old loads.new result }
+    ensures again { Reentered (laid map.entry) visits.old visits.new }
+{
+    if visits[node].level > 0 && map.nodes[node].is_below(k) {
+        press(map, k, loads, visits, shut, node)
+    } else {
+        0
+    }
+}
+
+// Sends more to each node of a rank below k that is reached, along whatever ways can be opened, and says how much in all.
+pub(crate) fn drain_again(
+    map: Layout,
+    k: u16,
+    loads: &mut [u32],
+    visits: &mut [Visit],
+    shut: &mut [u16],
+) -> u64
+    requires flow { Flow (laid map) loads.old }
+    requires idle { Idle (laid map) k loads.old }
+    requires tree { Tree (laid map) visits.old }
+    requires shut { length shut.old ≡ (laid map).nodes }
+    ensures gained { Gained (laid map.entry) k loads.old loads.new result }
+{
+    shut.fill(0);
+    let mut total = 0;
+    for node in 0..map.nodes.len() {
+        total += feed_again(map, k, loads, visits, shut, node);
+    }
+    total
+}
