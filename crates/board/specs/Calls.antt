@@ -1,5 +1,5 @@
 -- What each call on a board answers, and the board after it.
-use Rattle.std.specs.Prelude.{◌≡◌, ℕ, List, length, drop, Some, None, Ok, Err, Result}
+use Rattle.std.specs.Prelude.{◌≡◌, ℕ, ◌<◌, List, length, drop, Some, None, Ok, Err, Result}
 use Rattle.ranking.specs.Ranking.{Ranking}
 use Rattle.timetable.specs.declared.Lane.{Lane}
 use Rattle.timetable.specs.Quotes.{Right}
@@ -31,6 +31,10 @@ Opens s horizon origin (Err why) s' = Decides (opening_rules horizon origin) (So
 abbrev pub Adds : State → Lane → ℕ → Result ℕ Refusal → State → Type 0
 Adds s lane capacity (Ok n) s' = Decides (adding_rules s lane capacity) None × (n ≡ length s.grid.lanes) × (s' ≡ lane_added s lane capacity)
 Adds s lane capacity (Err why) s' = Decides (adding_rules s lane capacity) (Some why) × (s' ≡ s)
+
+-- Of the standing plan: the new lane carries nothing, and the lanes before it what they did.
+abbrev pub Unladen : (ℕ → ℕ → ℕ) → (ℕ → ℕ → ℕ) → ℕ → Type 0
+Unladen before after n = ((l t : ℕ) → l < n → t < 48 → after l t ≡ before l t) × ((t : ℕ) → t < 48 → after n t ≡ 0)
 
 -- A depot is named, and its place in their order given.
 abbrev pub Names : State → ℕ → Result ℕ Refusal → State → Type 0

@@ -1,7 +1,7 @@
 // The calls that change roads, and quotes.
-ghost use Rattle.std.specs.Prelude.{◌≡◌, false, is_ok, length};
+ghost use Rattle.std.specs.Prelude.{◌≡◌, IfOk, false, is_ok, length};
 ghost use Rattle.board.specs.States.{plan_on, state_of};
-ghost use Rattle.board.specs.Calls.{Adds, Names, Quotes, Sets};
+ghost use Rattle.board.specs.Calls.{Adds, Names, Quotes, Sets, Unladen};
 
 use super::Board;
 use crate::owing::owed_now;
@@ -13,6 +13,7 @@ impl Board {
     // Adds a lane, all of whose departures get the capacity, and gives its number. It carries nothing yet.
     pub fn add_lane(&mut self, lane: Lane, capacity: u16) -> Result<u8, Refusal>
         ensures answer { Adds (state_of self.old) lane capacity result (state_of self.new) }
+        ensures unladen { IfOk result (Unladen (plan_on self.old) (plan_on self.new)) }
         ensures kept { is_ok result ≡ false → plan_on self.new ≡ plan_on self.old }
     {
         let number = self.roads.add_lane(lane, capacity)?;
