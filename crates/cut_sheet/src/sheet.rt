@@ -4,13 +4,10 @@ ghost use Rattle.cut_sheet.specs.Bits.{bits_of};
 ghost use Rattle.cut_sheet.specs.Sheets.{Answers};
 
 use refusals::Refusal;
+use timetable::{LAST_PERIOD, LAST_YARD};
 
-// The last period and the last yard, and how many yards there are.
-const LAST_PERIOD: u8 = 47;
-
-const LAST_YARD: u8 = 31;
-
-const YARDS: usize = 32;
+// How many yards there are.
+const YARDS: usize = LAST_YARD as usize + 1;
 
 // How many periods of a yard lie inside a cut, and the first of them: the one after the horizon where none does.
 #[derive(Clone, Copy, Debug, PartialEq, Eq)]

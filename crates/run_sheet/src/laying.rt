@@ -4,9 +4,7 @@ ghost use Rattle.board.specs.States.{plan_on, state_of};
 ghost use Rattle.run_sheet.specs.Lists.{Laid, load_count, place_of};
 
 use board::Board;
-
-// Most lanes.
-pub(crate) const MOST_LANES: usize = 96;
+use timetable::MOST_LANES;
 
 // How many loads are laid out.
 pub(crate) fn load_count(board: &Board) -> usize

@@ -8,6 +8,15 @@ ghost use Rattle.timetable.specs.Live.{OnlyLiveLoaded, TestSaysLive};
 ghost use Rattle.timetable.specs.Rows.{CertifiedHolds};
 ghost use Rattle.timetable.specs.Unique.{FiguresUnique, MarksLive, MarksNested, RightUnique};
 
+// Yards are numbered up to the last, and periods too; a board has so many lanes and so many depots at most.
+pub const LAST_YARD: u8 = 31;
+
+pub const LAST_PERIOD: u8 = 47;
+
+pub const MOST_LANES: usize = 96;
+
+pub const MOST_DEPOTS: usize = 16;
+
 // A lane takes pallets from one yard to another, and they are `transit` periods on the way.
 #[derive(Clone, Copy, Debug, PartialEq, Eq)]
 pub struct Lane {

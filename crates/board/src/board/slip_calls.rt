@@ -12,10 +12,9 @@ use slips::moves::Act;
 use slips::refusal::Returned;
 use slips::slip::Slip;
 use slips::table::CAPACITY;
+use timetable::LAST_YARD;
 
-// The last yard, and the most pallets of a hold.
-const LAST_YARD: u8 = 31;
-
+// The most pallets of a hold.
 const MOST_PALLETS: u16 = 9999;
 
 impl Board {

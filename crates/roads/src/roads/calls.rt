@@ -7,17 +7,9 @@ use super::Roads;
 use refusals::Refusal;
 use std::alloc::{AllocError, Global};
 use std::mem;
-use timetable::Lane;
+use timetable::{LAST_PERIOD, LAST_YARD, Lane, MOST_DEPOTS, MOST_LANES};
 
-// The most lanes and depots, the last yard, the last period, and the largest capacity.
-const MOST_LANES: usize = 96;
-
-const MOST_DEPOTS: usize = 16;
-
-const LAST_YARD: u8 = 31;
-
-const LAST_PERIOD: u8 = 47;
-
+// The largest capacity.
 const MOST_CAPACITY: u16 = 9999;
 
 impl Roads {

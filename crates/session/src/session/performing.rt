@@ -17,10 +17,7 @@ use dayfile::record::Record;
 use ranking::{DepotOrder, PeriodOrder};
 use refusals::Refusal;
 use slips::moves::Act;
-use timetable::Lane;
-
-// The last yard.
-const LAST_YARD: u8 = 31;
+use timetable::{LAST_YARD, Lane};
 
 impl<'a> Session<'a> {
     // Performs a record, which begins at a position, and says what it is answered. A record that is turned away changes nothing.
