@@ -2,10 +2,11 @@
 // turn, and the marks of the places. Nothing of it is proved.
 //     g++ -std=c++17 -O3 -march=native -o plain tools/bench/plain.cpp; ./plain RANKING SECONDS < FILE.day
 // RANKING is 0 (depot order) or 1 (period order). It prints the figures and the marks, and the processor time of one whole quote
-// and of one plan for all owed, as a hold looks for. There are four programs in it. The search starts afresh after each round of
-// pushes, as the board's does, or it is made once, and its tree mended after each push. The arcs are linked at both of their
-// ends, as the board's are, or lie side by side, twice: at the node that each leaves, and turned round at the one it enters. Only
-// the first program, afresh and linked, lays out arcs of capacity 0, since the board does.
+// and of one plan for all owed, as a hold looks for. There are four programs in it. The search is made afresh after each round of
+// sending more along its tree and along all other ways on its levels, as the board's is; or it is made once, and its tree mended
+// after each push. The arcs are linked at both of their ends, as the board's are, or lie side by side, twice: at the node that
+// each leaves, and turned round at the one it enters. Only the first program, afresh and linked, lays out arcs of capacity 0,
+// since the board does.
 #include "day_file.h"
 
 constexpr int SOURCE = 1536, OWED = 1537, ALL_OWED = 1553, NODES = 1554, MOST_ARCS = 96 * 48 + 16 * 49;
@@ -95,12 +96,13 @@ template <class Net, bool MENDS, bool ALL_ARCS> struct Board {
     const Day &day;
     Net net;
     bool by_depot = false;
-    int ranks = 0, searches = 0;   // how often the last quote or plan searched afresh
-    uint16_t reached = 0;          // how often a node was reached since then
+    int ranks = 0, searches = 0;   // how often the last quote or plan searched the network
+    uint16_t reached = 0;          // how often a node was reached since the last search
     std::vector<int16_t> rank = std::vector<int16_t>(NODES);
     std::vector<std::vector<uint16_t>> by_rank = std::vector<std::vector<uint16_t>>(49);
     std::vector<uint16_t> mark = std::vector<uint16_t>(NODES), queue = mark, lost, forgotten;
     std::vector<Visit> visit = std::vector<Visit>(NODES);
+    std::vector<uint8_t> shut = std::vector<uint8_t>(NODES);   // which nodes are not to be gone through until the next search
     std::vector<uint64_t> figure = std::vector<uint64_t>(49);
     std::vector<uint8_t> told;   // the mark of yard y in period t at y * (horizon + 1) + t
 
@@ -174,18 +176,52 @@ template <class Net, bool MENDS, bool ALL_ARCS> struct Board {
         for (int v = 0; v < NODES; v++) if (visit[v].level) mark[v] = mark_now;
     }
 
-    // --- afresh: a search after each round of pushes ---
+    // --- afresh: rounds of sending more along the tree of the last search, then along other ways on its levels, and a search ---
 
+    bool is_asking(int v, int k) const { return visit[v].level && rank[v] >= 0 && rank[v] < k; }
     uint64_t drain(int k) {
         uint64_t more = 0;
-        for (int v = 0; v < NODES; v++) if (visit[v].level && rank[v] >= 0 && rank[v] < k) more += augment(v);
+        for (int v = 0; v < NODES; v++) if (is_asking(v, k)) more += augment(v);
         return more;
     }
+    bool is_entered(int v) const { return !shut[net.from(visit[v].via)] && net.room(visit[v].via); }
+    bool is_reentered(int v) {
+        return net.any_into(v, [&](int u, int via) {
+            if (!visit[u].level || visit[u].level + 1 != visit[v].level || shut[u]) return false;
+            visit[v].via = via;
+            return true;
+        });
+    }
+    // The first node on the way back from this one that cannot be entered from a level below, or else the source.
+    int go_back(int node) {
+        while (visit[node].level > 1 && (is_entered(node) || is_reentered(node))) node = net.from(visit[node].via);
+        return node;
+    }
+    // Opens a way to the node on the levels of the search, shutting nodes that have none, and says whether there is one.
+    bool reopen(int node) {
+        for (int at = go_back(node); at != SOURCE; at = go_back(node)) {
+            shut[at] = 1;
+            if (at == node) return false;
+        }
+        return true;
+    }
+    uint64_t drain_again(int k) {
+        uint64_t more = 0;
+        std::fill(shut.begin(), shut.end(), 0);
+        for (int v = 0; v < NODES; v++)
+            if (is_asking(v, k))
+                while (reopen(v)) more += augment(v);
+        return more;
+    }
+    // One search at the start, and one after each round that sent something: so a rank begins with the last search before it.
     void serve_afresh(int last) {
+        explore();
         for (int k = 0; k <= last; k++) {
             uint64_t total = 0;
-            explore();
-            while (uint64_t more = drain(k)) { total += more; explore(); }
+            while (uint64_t more = drain(k)) {
+                total += more + drain_again(k);
+                explore();
+            }
             stamp(k + 1);
             if (k) figure[k - 1] = total;
         }
@@ -279,6 +315,7 @@ template <class Net, bool MENDS, bool ALL_ARCS> struct Board {
 template <class AnyBoard> void measure(const char *name, const Day &day, bool depot_order, double seconds) {
     AnyBoard board(day);
     printf("time\t%s\tplan\t%.2f\n", name, micros(seconds, [&] { board.plan(); }));
+    printf("count\t%s\tplan searches\t%d\n", name, board.searches);
     printf("time\t%s\tquote\t%.2f\n", name, micros(seconds, [&] { board.quote(depot_order); }));
     printf("count\t%s\tsearches\t%d\n", name, board.searches);
     print_list("figures", std::vector<uint64_t>(board.figure.begin() + 1, board.figure.begin() + 1 + board.ranks));
