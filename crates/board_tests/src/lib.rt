@@ -1,12 +1,11 @@
 // Tests of the board's calls and questions, in a crate of their own, since a crate with tests is proved twice. What is expected was
-// worked out by hand; plans, figures, marks and standing rates also by `tools/board_cases.py`. The bounds of all that a day file can
-// ask for are tried by the days in examples/days.
+// worked out by hand. What a day file can ask for, figures and marks of quotes among it, is tried by the days in examples/days.
 #![tactic(auto)]
 
 #[cfg(test)]
 mod tests {
     use board::Board;
-    use ranking::{DepotOrder, PeriodOrder, Ranking};
+    use ranking::DepotOrder;
     use refusals::Refusal::{
         self, BadCapacity, BadHorizon, BadYard, ListTooShort, NoPlan, NotAsNeeded,
     };
@@ -16,7 +15,6 @@ mod tests {
     use slips::slip::Slip;
     use slips::table::SlipTable;
     use std::alloc::Global;
-    use std::process::Abort;
     use std::test::Fail;
     use timetable::Lane;
 
@@ -77,36 +75,6 @@ mod tests {
         taken(board.spend(slip, act))
     }
 
-    // The quote by a ranking, in lists that are longer than it and had 99 everywhere.
-    fn quote<R: Ranking + Drop>(
-        board: &mut Board,
-        ranking: R,
-    ) -> Result<([u64; 5], [u8; 130]), Refusal> {
-        let mut figures = [99; 5];
-        let mut marks = [99; 130];
-        board.quote(ranking, &mut figures, &mut marks)?;
-        Ok((figures, marks))
-    }
-
-    // The figures by depot order and by period order.
-    fn figures(board: &mut Board) -> Result<([u64; 5], [u64; 5]), Refusal> {
-        let (by_depot, _) = quote(board, DepotOrder)?;
-        let (by_period, _) = quote(board, PeriodOrder)?;
-        Ok((by_depot, by_period))
-    }
-
-    // Compares the marks up to the period 3: those of the yards 0 to 3 are these, and the others are 0. Past them there is 99.
-    fn check_marks(rt: &impl Abort, marks: &[u8; 130], first: &[u8; 16]) {
-        for (place, mark) in marks.iter().enumerate() {
-            let expected = match place {
-                0..16 => first[place],
-                16..128 => 0,
-                _ => 99,
-            };
-            assert_eq!(rt; *mark, expected, "at {place}");
-        }
-    }
-
     #[test]
     fn horizon_and_origin(rt: HostRuntime) -> Result<(), Fail> {
         let mut board = Board::new(rt.alloc())?;
@@ -132,65 +100,6 @@ mod tests {
         assert_eq!(rt; board.set_departure(0, 2, 9999), Ok(()));
         let told = [0, 1, 2, 3].map(|period| board.capacity(0, period));
         assert_eq!(rt; told, [Some(9999), Some(0), Some(9999), None]);
-        Ok(())
-    }
-
-    #[test]
-    fn quotes_with_nothing_owed(rt: HostRuntime) -> Result<(), Fail> {
-        let mut board = three_lanes(rt.alloc(), 3)?;
-        let (figures, marks) = quote(&mut board, DepotOrder)?;
-        assert_eq!(rt; figures, [4, 2, 99, 99, 99]);
-        check_marks(
-            &rt,
-            &marks,
-            &[3, 3, 0, 0, 0, 2, 2, 0, 0, 0, 1, 1, 0, 0, 2, 2],
-        );
-        let (figures, marks) = quote(&mut board, PeriodOrder)?;
-        assert_eq!(rt; figures, [0, 0, 3, 3, 99]);
-        check_marks(
-            &rt,
-            &marks,
-            &[5, 5, 0, 0, 0, 3, 4, 0, 0, 0, 3, 4, 0, 0, 3, 4],
-        );
-        Ok(())
-    }
-
-    #[test]
-    fn holds_and_a_lowered_departure(rt: HostRuntime) -> Result<(), Fail> {
-        let mut board = three_lanes(rt.alloc(), 3)?;
-        assert_eq!(rt; hold(&mut board, 3, 5, Book), Err(NoPlan));
-        assert_eq!(rt; hold(&mut board, 3, 3, Book), Ok(0));
-        let by_both = ([3, 0, 99, 99, 99], [0, 0, 2, 1, 99]);
-        assert_eq!(rt; figures(&mut board), Ok(by_both));
-        assert_eq!(rt; board.set_departure(0, 1, 0), Err(NoPlan));
-        assert_eq!(rt; board.capacity(0, 1), Some(3));
-        assert_eq!(rt; figures(&mut board), Ok(by_both));
-        assert_eq!(rt; board.set_departure(0, 1, 1), Ok(()));
-        assert_eq!(rt;
-            figures(&mut board),
-            Ok(([1, 0, 99, 99, 99], [0, 0, 1, 0, 99]))
-        );
-        assert_eq!(rt; hold(&mut board, 2, 2, Book), Err(NoPlan));
-        assert_eq!(rt; (board.owed(2), board.slip_state(1)), (0, None));
-        assert_eq!(rt; hold(&mut board, 2, 1, Book), Ok(1));
-        assert_eq!(rt; (board.owed(2), board.owed(3)), (1, 3));
-        assert_eq!(rt;
-            figures(&mut board),
-            Ok(([0, 0, 99, 99, 99], [0, 0, 0, 0, 99]))
-        );
-        Ok(())
-    }
-
-    // Nothing arrives up to the period 1.
-    #[test]
-    fn shortest_horizon(rt: HostRuntime) -> Result<(), Fail> {
-        let mut board = three_lanes(rt.alloc(), 1)?;
-        let (figures, marks) = quote(&mut board, DepotOrder)?;
-        assert_eq!(rt; figures, [0, 0, 99, 99, 99]);
-        let (quoted, past) = marks.split_at(64);
-        assert!(rt; quoted.iter().all(|mark| *mark == 0));
-        assert!(rt; past.iter().all(|mark| *mark == 99));
-        assert_eq!(rt; hold(&mut board, 2, 1, Book), Err(NoPlan));
         Ok(())
     }
 
