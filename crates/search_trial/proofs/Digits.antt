@@ -119,10 +119,17 @@ number ds = digits_value 10 ds % 2 ^ 32
 
 -- what is left of a text behind the gap, and the digits that follow it
 module _ (text after digits : List ℕ) (gap : after ≡ drop (prefix_len (λ b. not (is_ascii_digit b)) text) text) (front : digits ≡ take (prefix_len is_ascii_digit after) after) where
+  no_digit : length digits ≡ 0 → prefix_len is_ascii_digit after ≡ 0
+  no_digit l = sym (length-prefix_len is_ascii_digit after) ∙ ap length (sym front) ∙ l
+
+  all_gap : length digits ≡ 0 → after ≡ []
+  all_gap l = gap ∙ none is_ascii_digit number text (ap (prefix_len is_ascii_digit) (sym gap) ∙ no_digit l)
+
   pub no_more : length digits ≡ 0 → numbers text ≡ []
-  no_more l =
-      let z : prefix_len is_ascii_digit after ≡ 0 = sym (length-prefix_len is_ascii_digit after) ∙ ap length (sym front) ∙ l in
-      passed is_ascii_digit number text ∙ ap numbers (none is_ascii_digit number text (ap (prefix_len is_ascii_digit) (sym gap) ∙ z))
+  no_more l = passed is_ascii_digit number text ∙ ap numbers (sym gap ∙ all_gap l)
+
+  pub none_behind : (rest : List ℕ) → rest ≡ drop (prefix_len is_ascii_digit after) after → length digits ≡ 0 → numbers rest ≡ []
+  none_behind rest back l = ap numbers (back ∙ ap (λ n. drop n after) (no_digit l) ∙ all_gap l)
 
   pub one_more : (rest : List ℕ) → rest ≡ drop (prefix_len is_ascii_digit after) after → 0 < length digits → numbers text ≡ fold with_digit 0 digits ∷ numbers rest
   one_more rest back l =

@@ -53,10 +53,11 @@ impl Iterator for Numbers<'_> {
     fn next(&mut self) -> Option<u32> {
         let (_, text) = self.rest.split_at(gap_len(self.rest));
         let (digits, rest) = text.split_at(digits_len(text));
+        // Where no number is left too, so that what stands behind the last one is gone through once.
+        self.rest = rest;
         if digits.is_empty() {
             return None;
         }
-        self.rest = rest;
         Some(value(digits))
     }
 }

@@ -1,13 +1,15 @@
 use Rattle.std.proofs.Common.{◌≡◌, ◌∷◌, rules, ap, sym, ◌∙◌}
 use Rattle.search_trial.specs.Numbers.{left}
-use Rattle.search_trial.proofs.Digits.{no_more, one_more}
+use Rattle.search_trial.proofs.Digits.{no_more, none_behind, one_more}
 use Rattle.search_trial.proofs.numbers.reading.NumbersIterator.next.Goals as goal
 use Rattle.search_trial.proofs.numbers.reading.NumbersIterator.next.Goals.{After-value}
 
 pub returns-then-is_empty-clause-steps : goal.returns-then-is_empty-clause-steps
 returns-then-is_empty-clause-steps c =
-    let none = no_more c.args.self.now.rest.now c.split_at.result.1.now c.split_at-2.result.0.now (cc) (cc) (search rules) in
-    (none, none)
+    let text = c.args.self.now.rest.now in
+    let after = c.split_at.result.1.now in
+    let digits = c.split_at-2.result.0.now in
+    (no_more text after digits (cc) (cc) (search rules), none_behind text after digits (cc) (cc) c.split_at-2.result.1.now (cc) (search rules))
 
 first : (c : After-value) → left c.args.self.now ≡ c.value.result ∷ left (record { rest = c.split_at-2.result.1 })
 first c =
