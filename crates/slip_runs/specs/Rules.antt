@@ -76,7 +76,8 @@ pub data Step (w : World) : Request → Answer → World → Type 0 where
   -- no place of the hand, no slip
   no_slip : {i : ℕ} {a : Act} → length w.hand ≤ i → Step w (Give i a) NoSlip w
 
--- a request at a desk: a step by the rules, that takes at most one of the spare places
+-- a request at a desk: a step by the rules, that takes at most one of the spare places, in a hand that has as many places as before
 pub record Turned (d : Desk) (r : Request) (a : Answer) (d' : Desk) : Type 0 where
   pub step : Step (world_at d) r a (world_at d')
   pub spare : spare_places d ≤ spare_places d' + 1
+  pub places : vec_capacity d'.hand ≡ vec_capacity d.hand

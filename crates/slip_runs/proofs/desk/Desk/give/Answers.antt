@@ -9,7 +9,7 @@ use Rattle.slip_runs.proofs.desk.Desk.give.Goals as goal
 pub returns-then-place-len : goal.returns-then-place-len
 returns-then-place-len c =
     let past : length (vec_items c.args.self.now.hand) ≤ c.args.place = search rules in
-    record { step = Step.no_slip past; spare = search rules }
+    record { step = Step.no_slip past; spare = search rules; places = search rules }
 
 pub returns-in-Ok : goal.returns-in-Ok
 returns-in-Ok c =
@@ -20,6 +20,7 @@ returns-in-Ok c =
       step = spend_step c.args.self.now.table _ hand c.args.place c.remove-slip.result at c.args.act _ _ _ _
           c.in-Ok.ensures.answer c.number.ensures c.depot.ensures c.pallets.ensures c.remove-slip.ensures.items;
       spare = search rules;
+      places = search rules;
     }
 
 pub returns-in-Err : goal.returns-in-Err
@@ -32,4 +33,5 @@ returns-in-Err c =
       step = refuse_step c.args.self.now.table _ hand c.args.place c.remove-slip.result at c.in-Err.field-0 _ put c.args.act
           c.in-Err.ensures.answer;
       spare = search rules;
+      places = search rules;
     }
