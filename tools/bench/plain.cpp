@@ -39,14 +39,21 @@ struct Linked {
         for (int at = first[node].out; at; at = arcs[at - 1].next_out) take(arcs[at - 1].head, 2 * (at - 1));
         for (int at = first[node].in; at; at = arcs[at - 1].next_in) take(arcs[at - 1].tail, 2 * (at - 1) + 1);
     }
-    // Calls take(u, way from u) for each way with room into the node, until it answers true.
-    template <class Take> bool any_into(int node, Take take) const {
-        for (int at = first[node].in; at; at = arcs[at - 1].next_in)
+    // Calls take(u, way from u) for each way with room into the node, until it answers true or no step is left: one for each arc.
+    template <class Take> bool any_into(int node, int64_t &steps, Take take) const {
+        for (int at = first[node].in; at; at = arcs[at - 1].next_in) {
+            if (!steps) return false;
+            steps--;
             if (load[at - 1] < arcs[at - 1].capacity && take(arcs[at - 1].tail, 2 * (at - 1))) return true;
-        for (int at = first[node].out; at; at = arcs[at - 1].next_out)
+        }
+        for (int at = first[node].out; at; at = arcs[at - 1].next_out) {
+            if (!steps) return false;
+            steps--;
             if (load[at - 1] > 0 && take(arcs[at - 1].head, 2 * (at - 1) + 1)) return true;
+        }
         return false;
     }
+    int64_t size() const { return NODES + count; }
 };
 
 // The ways out of a node lie side by side, each with its room and the number of the way back.
@@ -81,11 +88,15 @@ struct Halves {
     template <class Take> void each_way(int node, Take take) const {
         for (int h = first[node]; h < first[node + 1]; h++) take(halves[h].to, h);
     }
-    template <class Take> bool any_into(int node, Take take) const {
-        for (int h = first[node]; h < first[node + 1]; h++)
+    template <class Take> bool any_into(int node, int64_t &steps, Take take) const {
+        for (int h = first[node]; h < first[node + 1]; h++) {
+            if (!steps) return false;
+            steps--;
             if (halves[halves[h].back].room && take(halves[h].to, halves[h].back)) return true;
+        }
         return false;
     }
+    int64_t size() const { return NODES + arcs.size(); }
 };
 
 // --- the board ---
@@ -97,6 +108,8 @@ template <class Net, bool MENDS, bool ALL_ARCS> struct Board {
     Net net;
     bool by_depot = false;
     int ranks = 0, searches = 0;   // how often the last quote or plan searched the network
+    int64_t patience = 0;          // how many steps may still be made in vain before the next search
+    int64_t ever = INT64_MAX;      // as many steps as it takes
     uint16_t reached = 0;          // how often a node was reached since the last search
     std::vector<int16_t> rank = std::vector<int16_t>(NODES);
     std::vector<std::vector<uint16_t>> by_rank = std::vector<std::vector<uint16_t>>(49);
@@ -186,7 +199,7 @@ template <class Net, bool MENDS, bool ALL_ARCS> struct Board {
     }
     bool is_entered(int v) const { return !shut[net.from(visit[v].via)] && net.room(visit[v].via); }
     bool is_reentered(int v) {
-        return net.any_into(v, [&](int u, int via) {
+        return net.any_into(v, patience, [&](int u, int via) {
             if (!visit[u].level || visit[u].level + 1 != visit[v].level || shut[u]) return false;
             visit[v].via = via;
             return true;
@@ -199,11 +212,14 @@ template <class Net, bool MENDS, bool ALL_ARCS> struct Board {
     }
     // Opens a way to the node on the levels of the search, shutting nodes that have none, and says whether there is one.
     bool reopen(int node) {
-        for (int at = go_back(node); at != SOURCE; at = go_back(node)) {
+        while (patience) {
+            int at = go_back(node);
+            if (at == SOURCE) return true;
             shut[at] = 1;
             if (at == node) return false;
+            patience = std::max<int64_t>(0, patience - visit[node].level);
         }
-        return true;
+        return false;
     }
     uint64_t drain_again(int k) {
         uint64_t more = 0;
@@ -213,13 +229,18 @@ template <class Net, bool MENDS, bool ALL_ARCS> struct Board {
                 while (reopen(v)) more += augment(v);
         return more;
     }
-    // One search at the start, and one after each round that sent something: so a rank begins with the last search before it.
+    // One search at the start, and one after each round that sent something: so a rank begins with the last search before it. A
+    // round has patience for as many steps as a search takes, or for half as many as the one before that found no other way.
     void serve_afresh(int last) {
         explore();
         for (int k = 0; k <= last; k++) {
             uint64_t total = 0;
+            int64_t steps = net.size();
             while (uint64_t more = drain(k)) {
-                total += more + drain_again(k);
+                patience = steps;
+                uint64_t again = drain_again(k);
+                steps = again ? net.size() : steps / 2;
+                total += more + again;
                 explore();
             }
             stamp(k + 1);
@@ -234,7 +255,7 @@ template <class Net, bool MENDS, bool ALL_ARCS> struct Board {
         return above && above < visit[v].level && net.room(visit[v].via);
     }
     bool is_adopted(int v) {
-        return net.any_into(v, [&](int u, int via) {
+        return net.any_into(v, ever, [&](int u, int via) {
             if (!visit[u].level || visit[u].level >= visit[v].level) return false;
             visit[v].via = via;
             return true;
@@ -250,7 +271,7 @@ template <class Net, bool MENDS, bool ALL_ARCS> struct Board {
         for (size_t i = first; i < forgotten.size(); i++) {
             int v = forgotten[i];
             if (!visit[v].level)
-                net.any_into(v, [&](int u, int via) {
+                net.any_into(v, ever, [&](int u, int via) {
                     if (visit[u].level) reach(v, 0, via, to);
                     return visit[u].level > 0;
                 });

@@ -14,7 +14,8 @@ use crate::way::{Ways, drain_again};
 // Sends more to the nodes of the ranks below k until none of them is reached, and says how much in all. The visits say what can be
 // reached, before and after it.
 // (How long slots are is said of the list handed in: it is written, so no struct holds it. Between searches the slots tell which
-// nodes are shut.)
+// nodes are shut. Other ways are looked for in as many steps as a search takes, and in half as many each time that they were looked
+// for in vain: so where they never bring anything, the rounds cost no more than the searches.)
 pub(crate) fn saturate(
     map: Layout,
     k: u16,
@@ -32,13 +33,17 @@ pub(crate) fn saturate(
     ensures smallest { Smallest (laid map.entry) k loads.new (reached visits.new) }
 {
     let mut total = 0;
+    let steps = (map.nodes.len() + map.arcs.len()) as u32;
+    let mut patience = steps;
     'rounds: loop {
         let more = Ways { map, visits }.drain(k, loads);
         if more == 0 {
             return total;
         }
         total += more;
-        total += drain_again(map, k, loads, visits, slots);
+        let again = drain_again(map, k, loads, visits, slots, patience);
+        total += again;
+        patience = if again > 0 { steps } else { patience / 2 };
         Residual { map, loads }.explore(visits, slots);
     }
 }

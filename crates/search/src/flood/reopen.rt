@@ -1,5 +1,7 @@
 // Other ways to the nodes that a search reached, on the levels that it gave them.
-// Which nodes are shut is only a hint, as is what `reopen` answers: whoever sends along a way finds what it has room for.
+// Which nodes are shut is only a hint, as is what `reopen` answers: whoever sends along a way finds what it has room for. So it may
+// be given up at any time, and is once the patience that it is given has gone: a number of steps, of which each arc that is looked
+// at takes one, and each turn that opens no way as many as the way is long.
 ghost use Rattle.std.specs.Prelude.{◌≡◌, ◌<◌, IfSome, length};
 ghost use Rattle.search.specs.Layouts.{laid};
 ghost use Rattle.search.specs.Visits.{Enters, Reentered, Tree, level};
@@ -22,7 +24,14 @@ impl Residual<'_> {
     }
 
     // A visit by which the node can be entered on its level, along an arc that has its start at the given end.
-    fn entry_from(&self, end: End, visits: &[Visit], shut: &[u16], node: usize) -> Option<Visit>
+    fn entry_from(
+        &self,
+        end: End,
+        visits: &[Visit],
+        shut: &[u16],
+        node: usize,
+        patience: &mut u32,
+    ) -> Option<Visit>
         requires tree { Tree (laid self.now.map) visits.now }
         requires shut { length shut.now ≡ (laid self.now.map).nodes }
         requires reached { 0 < level visits.now node }
@@ -31,6 +40,7 @@ impl Residual<'_> {
         let level = visits[node].level;
         let mut at = self.map.nodes[node].first.at(end.other());
         while let Some(e) = at {
+            *patience = patience.checked_sub(1)?;
             let arc = self.map.arc(e);
             let from = end.of(arc) as usize;
             let below = visits[from].level;
@@ -48,14 +58,14 @@ impl Residual<'_> {
     }
 
     // Enters the node along another arc, if that can be done on its level, and says whether it can.
-    fn reenter(&self, visits: &mut [Visit], shut: &[u16], node: usize) -> bool
+    fn reenter(&self, visits: &mut [Visit], shut: &[u16], node: usize, patience: &mut u32) -> bool
         requires tree { Tree (laid self.now.map) visits.old }
         requires shut { length shut.now ≡ (laid self.now.map).nodes }
         requires reached { 0 < level visits.old node }
         ensures { Reentered (laid self.now.map) visits.old visits.new }
     {
-        let found = match self.entry_from(End::Tail, visits, shut, node) {
-            None => self.entry_from(End::Head, visits, shut, node),
+        let found = match self.entry_from(End::Tail, visits, shut, node, patience) {
+            None => self.entry_from(End::Head, visits, shut, node, patience),
             found => found,
         };
         let Some(visit) = found else {
@@ -67,7 +77,13 @@ impl Residual<'_> {
 
     // Goes back from the node to the source, entering nodes along other arcs where that is needed, and gives the first node that
     // cannot be entered, if there is one.
-    fn go_back(&self, visits: &mut [Visit], shut: &[u16], node: usize) -> Option<usize>
+    fn go_back(
+        &self,
+        visits: &mut [Visit],
+        shut: &[u16],
+        node: usize,
+        patience: &mut u32,
+    ) -> Option<usize>
         requires tree { Tree (laid self.now.map) visits.old }
         requires shut { length shut.now ≡ (laid self.now.map).nodes }
         requires reached { 0 < level visits.old node }
@@ -76,7 +92,7 @@ impl Residual<'_> {
     {
         let mut at = node;
         while visits[at].level > 1 {
-            if !self.is_entered(visits, shut, at) && !self.reenter(visits, shut, at) {
+            if !self.is_entered(visits, shut, at) && !self.reenter(visits, shut, at, patience) {
                 return Some(at);
             }
             let visit = visits[at];
@@ -87,20 +103,30 @@ impl Residual<'_> {
 
     // Opens a way to the node, if there is one on the levels of the search, and says whether there is. Each turn shuts a node that
     // cannot be entered, so there are no more turns than nodes.
-    pub(crate) fn reopen(&self, visits: &mut [Visit], shut: &mut [u16], node: usize) -> bool
+    pub(crate) fn reopen(
+        &self,
+        visits: &mut [Visit],
+        shut: &mut [u16],
+        node: usize,
+        patience: &mut u32,
+    ) -> bool
         requires tree { Tree (laid self.now.map) visits.old }
         requires shut { length shut.old ≡ (laid self.now.map).nodes }
         requires reached { 0 < level visits.old node }
         ensures { Reentered (laid self.now.map) visits.old visits.new }
     {
         for _ in 0..self.map.nodes.len() {
-            let Some(at) = self.go_back(visits, shut, node) else {
+            if *patience == 0 {
+                return false;
+            }
+            let Some(at) = self.go_back(visits, shut, node, patience) else {
                 return true;
             };
             shut[at] = 1;
             if at == node {
                 return false;
             }
+            *patience = patience.saturating_sub(u32::from(visits[node].level));
         }
         false
     }

@@ -19,6 +19,7 @@ fn press(
     visits: &mut [Visit],
     shut: &mut [u16],
     node: usize,
+    patience: &mut u32,
 ) -> u64
     requires flow { Flow (laid map) loads.old }
     requires idle { Idle (laid map) k loads.old }
@@ -31,7 +32,7 @@ fn press(
 {
     let mut total = 0;
     for _ in 0..map.arcs.len() {
-        if !(Residual { map, loads }).reopen(visits, shut, node) {
+        if !(Residual { map, loads }).reopen(visits, shut, node, patience) {
             break;
         }
         total += u64::from(Ways { map, visits }.augment(loads, node));
@@ -47,6 +48,7 @@ fn feed_again(
     visits: &mut [Visit],
     shut: &mut [u16],
     node: usize,
+    patience: &mut u32,
 ) -> u64
     requires flow { Flow (laid map) loads.old }
     requires idle { Idle (laid map) k loads.old }
@@ -57,19 +59,21 @@ fn feed_again(
     ensures again { Reentered (laid map.entry) visits.old visits.new }
 {
     if visits[node].level > 0 && map.nodes[node].is_below(k) {
-        press(map, k, loads, visits, shut, node)
+        press(map, k, loads, visits, shut, node, patience)
     } else {
         0
     }
 }
 
-// Sends more to each node of a rank below k that is reached, along whatever ways can be opened, and says how much in all.
+// Sends more to each node of a rank below k that is reached, along whatever ways can be opened with this patience, and says how
+// much in all.
 pub(crate) fn drain_again(
     map: Layout,
     k: u16,
     loads: &mut [u32],
     visits: &mut [Visit],
     shut: &mut [u16],
+    mut patience: u32,
 ) -> u64
     requires flow { Flow (laid map) loads.old }
     requires idle { Idle (laid map) k loads.old }
@@ -80,7 +84,7 @@ pub(crate) fn drain_again(
     shut.fill(0);
     let mut total = 0;
     for node in 0..map.nodes.len() {
-        total += feed_again(map, k, loads, visits, shut, node);
+        total += feed_again(map, k, loads, visits, shut, node, &mut patience);
     }
     total
 }
