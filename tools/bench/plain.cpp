@@ -53,7 +53,6 @@ struct Linked {
         }
         return false;
     }
-    int64_t size() const { return NODES + count; }
 };
 
 // The ways out of a node lie side by side, each with its room and the number of the way back.
@@ -96,7 +95,6 @@ struct Halves {
         }
         return false;
     }
-    int64_t size() const { return NODES + arcs.size(); }
 };
 
 // --- the board ---
@@ -110,6 +108,7 @@ template <class Net, bool MENDS, bool ALL_ARCS> struct Board {
     int ranks = 0, searches = 0;   // how often the last quote or plan searched the network
     int64_t patience = 0;          // how many steps may still be made in vain before the next search
     int64_t ever = INT64_MAX;      // as many steps as it takes
+    int64_t found = 0;             // how many nodes the last flood went through
     uint16_t reached = 0;          // how often a node was reached since the last search
     std::vector<int16_t> rank = std::vector<int16_t>(NODES);
     std::vector<std::vector<uint16_t>> by_rank = std::vector<std::vector<uint16_t>>(49);
@@ -168,6 +167,7 @@ template <class Net, bool MENDS, bool ALL_ARCS> struct Board {
             int v = queue[at++], level = visit[v].level + 1;
             net.each_way(v, [&](int w, int via) { if (net.room(via)) reach(w, level, via, to); });
         }
+        found = to;
     }
     void explore() {
         searches++;
@@ -230,18 +230,19 @@ template <class Net, bool MENDS, bool ALL_ARCS> struct Board {
         return more;
     }
     // One search at the start, and one after each round that sent something: so a rank begins with the last search before it. A
-    // round has patience for as many steps as a search takes, or for half as many as the one before that found no other way.
+    // round has patience for two steps for each node reached at most, for half as many as the one before if that found no other way,
+    // and for up to twice as many if it did.
     void serve_afresh(int last) {
         explore();
+        int64_t steps = 2 * found;
         for (int k = 0; k <= last; k++) {
             uint64_t total = 0;
-            int64_t steps = net.size();
             while (uint64_t more = drain(k)) {
                 patience = steps;
-                uint64_t again = drain_again(k);
-                steps = again ? net.size() : steps / 2;
+                uint64_t again = steps ? drain_again(k) : 0;
                 total += more + again;
                 explore();
+                steps = std::min(again ? 2 * steps : steps / 2, 2 * found);
             }
             stamp(k + 1);
             if (k) figure[k - 1] = total;

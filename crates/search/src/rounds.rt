@@ -14,14 +14,15 @@ use crate::way::{Ways, drain_again};
 // Sends more to the nodes of the ranks below k until none of them is reached, and says how much in all. The visits say what can be
 // reached, before and after it.
 // (How long slots are is said of the list handed in: it is written, so no struct holds it. Between searches the slots tell which
-// nodes are shut. Other ways are looked for in as many steps as a search takes, and in half as many each time that they were looked
-// for in vain: so where they never bring anything, the rounds cost no more than the searches.)
+// nodes are shut. Other ways are looked for with patience: at most two steps for each node that the last search reached, half as many
+// as before after a round that found none, and twice as many after one that did. How long is a hint that nothing rests on.)
 pub(crate) fn saturate(
     map: Layout,
     k: u16,
     loads: &mut [u32],
     visits: &mut [Visit],
     slots: &mut [u16],
+    patience: &mut u32,
 ) -> u64
     requires slots { length slots.old ≡ (laid map).nodes }
     requires flow { Flow (laid map) loads.old }
@@ -33,17 +34,20 @@ pub(crate) fn saturate(
     ensures smallest { Smallest (laid map.entry) k loads.new (reached visits.new) }
 {
     let mut total = 0;
-    let steps = (map.nodes.len() + map.arcs.len()) as u32;
-    let mut patience = steps;
     'rounds: loop {
         let more = Ways { map, visits }.drain(k, loads);
         if more == 0 {
             return total;
         }
         total += more;
-        let again = drain_again(map, k, loads, visits, slots, patience);
+        let again = drain_again(map, k, loads, visits, slots, *patience);
         total += again;
-        patience = if again > 0 { steps } else { patience / 2 };
-        Residual { map, loads }.explore(visits, slots);
+        let reached = Residual { map, loads }.explore(visits, slots);
+        let next = if again > 0 {
+            patience.saturating_mul(2)
+        } else {
+            *patience / 2
+        };
+        *patience = next.min(reached.saturating_mul(2));
     }
 }

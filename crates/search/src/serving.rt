@@ -74,10 +74,11 @@ fn serve_ranks(
     requires start { Standing (laid map) 0 loads.old marks.old figures.old }
     ensures { Standing (laid map.entry) (ranks + 1) loads.new marks.new figures.new }
 {
-    Residual { map, loads }.explore(visits, slots);
+    let reached = Residual { map, loads }.explore(visits, slots);
+    let mut patience = reached.saturating_mul(2);
     // Over the figures the round for k = 0, which has none, would have to stand before the loop once more.
     for k in 0..ranks + 1 {
-        let gained = saturate(map, k, loads, visits, slots);
+        let gained = saturate(map, k, loads, visits, slots, &mut patience);
         stamp(visits, marks, k + 1);
         if k > 0 {
             figures[k as usize - 1] = gained;

@@ -49,19 +49,23 @@ impl Residual<'_> {
         self.scan(End::Head, node, visits, waiting);
     }
 
-    // Goes on until no node waits.
-    fn flood(&self, visits: &mut [Visit], waiting: &mut Queue<u16>)
+    // Goes on until no node waits, and counts the nodes.
+    fn flood(&self, visits: &mut [Visit], waiting: &mut Queue<u16>) -> u32
         requires slots { slot_count waiting.old ≡ (laid self.now.map).nodes }
         requires so { Searching (laid self.now.map) self.now.loads.now visits.old (items waiting.old) }
         ensures { Searching (laid self.now.map) self.now.loads.now visits.new [] }
     {
+        let mut reached = 0u32;
         while let Some(node) = waiting.pop() {
             self.expand(node, visits, waiting);
+            reached = reached.saturating_add(1);
         }
+        reached
     }
 
-    // Visits each node that can be reached from the source along arcs that may be crossed.
-    pub(crate) fn explore(&self, visits: &mut [Visit], slots: &mut [u16])
+    // Visits each node that can be reached from the source along arcs that may be crossed, and counts them. (How many they are is
+    // a hint of what a search costs, and not said.)
+    pub(crate) fn explore(&self, visits: &mut [Visit], slots: &mut [u16]) -> u32
         requires visits { length visits.old ≡ (laid self.now.map).nodes }
         requires slots { length slots.old ≡ (laid self.now.map).nodes }
         ensures { Found (laid self.now.map) self.now.loads.now visits.new }
@@ -75,6 +79,6 @@ impl Residual<'_> {
         };
         let mut waiting = Queue::new(slots);
         waiting.push(source).unwrap();
-        self.flood(visits, &mut waiting);
+        self.flood(visits, &mut waiting)
     }
 }

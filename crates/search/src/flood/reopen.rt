@@ -1,7 +1,7 @@
 // Other ways to the nodes that a search reached, on the levels that it gave them.
 // Which nodes are shut is only a hint, as is what `reopen` answers: whoever sends along a way finds what it has room for. So it may
 // be given up at any time, and is once the patience that it is given has gone: a number of steps, of which each arc that is looked
-// at takes one, and each turn that opens no way as many as the way is long.
+// at takes one, and each node that is shut on the way to another as many as the level of that other.
 ghost use Rattle.std.specs.Prelude.{◌≡◌, ◌<◌, IfSome, length};
 ghost use Rattle.search.specs.Layouts.{laid};
 ghost use Rattle.search.specs.Visits.{Enters, Reentered, Tree, level};
@@ -23,7 +23,8 @@ impl Residual<'_> {
         shut[from as usize] == 0 && visit.side.may_cross(arc, self.loads[visit.arc as usize])
     }
 
-    // A visit by which the node can be entered on its level, along an arc that has its start at the given end.
+    // A visit by which the node can be entered on its level, along an arc that has its start at the given end, if one is found while
+    // patience lasts.
     fn entry_from(
         &self,
         end: End,
@@ -57,7 +58,7 @@ impl Residual<'_> {
         None
     }
 
-    // Enters the node along another arc, if that can be done on its level, and says whether it can.
+    // Enters the node along another arc, if one is found on its level while patience lasts, and says whether one is.
     fn reenter(&self, visits: &mut [Visit], shut: &[u16], node: usize, patience: &mut u32) -> bool
         requires tree { Tree (laid self.now.map) visits.old }
         requires shut { length shut.now ≡ (laid self.now.map).nodes }
@@ -75,8 +76,8 @@ impl Residual<'_> {
         true
     }
 
-    // Goes back from the node to the source, entering nodes along other arcs where that is needed, and gives the first node that
-    // cannot be entered, if there is one.
+    // Goes back from the node to the source, entering nodes along other arcs where that is needed, and gives the first node for which
+    // no such arc is found, if there is one.
     fn go_back(
         &self,
         visits: &mut [Visit],
@@ -101,8 +102,8 @@ impl Residual<'_> {
         None
     }
 
-    // Opens a way to the node, if there is one on the levels of the search, and says whether there is. Each turn shuts a node that
-    // cannot be entered, so there are no more turns than nodes.
+    // Opens a way to the node, if one is found on the levels of the search while patience lasts, and says whether one is. Each turn
+    // shuts a node for which no arc was found, so there are no more turns than nodes.
     pub(crate) fn reopen(
         &self,
         visits: &mut [Visit],

@@ -81,6 +81,9 @@ pub(crate) fn drain_again(
     requires shut { length shut.old ≡ (laid map).nodes }
     ensures gained { Gained (laid map.entry) k loads.old loads.new result }
 {
+    if patience == 0 {
+        return 0;
+    }
     shut.fill(0);
     let mut total = 0;
     for node in 0..map.nodes.len() {
