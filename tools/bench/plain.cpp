@@ -15,10 +15,11 @@ constexpr int SOURCE = 1536, OWED = 1537, ALL_OWED = 1553, NODES = 1554, MOST_AR
 
 // Way 2e is arc e taken along, 2e + 1 the same taken back. A link is one more than the number of an arc, and 0 for none.
 struct Linked {
-    struct Entry { uint16_t tail, head; uint32_t capacity; uint16_t next_out, next_in; };
+    struct Arc { uint16_t tail, head; uint32_t capacity; };
     struct First { uint16_t out, in; };
     size_t count = 0;
-    std::vector<Entry> arcs = std::vector<Entry>(MOST_ARCS);
+    std::vector<Arc> arcs = std::vector<Arc>(MOST_ARCS);
+    std::vector<uint16_t> next_out = std::vector<uint16_t>(MOST_ARCS), next_in = next_out;
     std::vector<uint32_t> load = std::vector<uint32_t>(MOST_ARCS);
     std::vector<First> first = std::vector<First>(NODES);
 
@@ -27,7 +28,9 @@ struct Linked {
         std::fill(first.begin(), first.end(), First{0, 0});
     }
     void add(int tail, int head, uint32_t capacity) {
-        arcs[count++] = {(uint16_t)tail, (uint16_t)head, capacity, first[tail].out, first[head].in};
+        arcs[count] = {(uint16_t)tail, (uint16_t)head, capacity};
+        next_out[count] = first[tail].out;
+        next_in[count++] = first[head].in;
         first[tail].out = first[head].in = count;
     }
     void finish() { std::fill(load.begin(), load.begin() + count, 0); }
@@ -36,17 +39,17 @@ struct Linked {
     void push(int via, uint32_t amount) { load[via / 2] += via % 2 ? -amount : amount; }
     // Calls take(w, way to w) for each way out of the node.
     template <class Take> void each_way(int node, Take take) const {
-        for (int at = first[node].out; at; at = arcs[at - 1].next_out) take(arcs[at - 1].head, 2 * (at - 1));
-        for (int at = first[node].in; at; at = arcs[at - 1].next_in) take(arcs[at - 1].tail, 2 * (at - 1) + 1);
+        for (int at = first[node].out; at; at = next_out[at - 1]) take(arcs[at - 1].head, 2 * (at - 1));
+        for (int at = first[node].in; at; at = next_in[at - 1]) take(arcs[at - 1].tail, 2 * (at - 1) + 1);
     }
     // Calls take(u, way from u) for each way with room into the node, until it answers true or no step is left: one for each arc.
     template <class Take> bool any_into(int node, int64_t &steps, Take take) const {
-        for (int at = first[node].in; at; at = arcs[at - 1].next_in) {
+        for (int at = first[node].in; at; at = next_in[at - 1]) {
             if (!steps) return false;
             steps--;
             if (load[at - 1] < arcs[at - 1].capacity && take(arcs[at - 1].tail, 2 * (at - 1))) return true;
         }
-        for (int at = first[node].out; at; at = arcs[at - 1].next_out) {
+        for (int at = first[node].out; at; at = next_out[at - 1]) {
             if (!steps) return false;
             steps--;
             if (load[at - 1] > 0 && take(arcs[at - 1].head, 2 * (at - 1) + 1)) return true;
@@ -106,9 +109,9 @@ template <class Net, bool MENDS, bool ALL_ARCS> struct Board {
     Net net;
     bool by_depot = false;
     int ranks = 0, searches = 0;   // how often the last quote or plan searched the network
-    int64_t patience = 0;          // how many steps may still be made in vain before the next search
+    int64_t patience = 0;          // how many steps may still be made to find other ways before the next search
     int64_t ever = INT64_MAX;      // as many steps as it takes
-    int64_t found = 0;             // how many nodes the last flood went through
+    int64_t steps = 0;             // how many nodes and ways the last flood went through
     uint16_t reached = 0;          // how often a node was reached since the last search
     std::vector<int16_t> rank = std::vector<int16_t>(NODES);
     std::vector<std::vector<uint16_t>> by_rank = std::vector<std::vector<uint16_t>>(49);
@@ -163,11 +166,15 @@ template <class Net, bool MENDS, bool ALL_ARCS> struct Board {
         queue[to++] = node;
     }
     void flood(size_t to) {
+        steps = 0;
         for (size_t at = 0; at < to;) {
             int v = queue[at++], level = visit[v].level + 1;
-            net.each_way(v, [&](int w, int via) { if (net.room(via)) reach(w, level, via, to); });
+            net.each_way(v, [&](int w, int via) {
+                steps++;
+                if (net.room(via)) reach(w, level, via, to);
+            });
         }
-        found = to;
+        steps += to;
     }
     void explore() {
         searches++;
@@ -212,12 +219,16 @@ template <class Net, bool MENDS, bool ALL_ARCS> struct Board {
     }
     // Opens a way to the node on the levels of the search, shutting nodes that have none, and says whether there is one.
     bool reopen(int node) {
-        while (patience) {
+        int64_t length = visit[node].level;
+        while (patience >= 3 * length) {
             int at = go_back(node);
+            if (at == node) {
+                shut[at] = 1;
+                return false;
+            }
+            patience = std::max<int64_t>(0, patience - (at == SOURCE ? 3 : 1) * length);
             if (at == SOURCE) return true;
             shut[at] = 1;
-            if (at == node) return false;
-            patience = std::max<int64_t>(0, patience - visit[node].level);
         }
         return false;
     }
@@ -230,19 +241,19 @@ template <class Net, bool MENDS, bool ALL_ARCS> struct Board {
         return more;
     }
     // One search at the start, and one after each round that sent something: so a rank begins with the last search before it. A
-    // round has patience for two steps for each node reached at most, for half as many as the one before if that found no other way,
-    // and for up to twice as many if it did.
+    // round has patience for an eighth of the steps of that search at most, for half as many as the round before if that found no
+    // other way, and for up to twice as many if it did.
     void serve_afresh(int last) {
         explore();
-        int64_t steps = 2 * found;
+        int64_t most = steps / 8;
         for (int k = 0; k <= last; k++) {
             uint64_t total = 0;
             while (uint64_t more = drain(k)) {
-                patience = steps;
-                uint64_t again = steps ? drain_again(k) : 0;
+                patience = most;
+                uint64_t again = most ? drain_again(k) : 0;
                 total += more + again;
                 explore();
-                steps = std::min(again ? 2 * steps : steps / 2, 2 * found);
+                most = std::min(again ? 2 * most : most / 2, steps / 8);
             }
             stamp(k + 1);
             if (k) figure[k - 1] = total;

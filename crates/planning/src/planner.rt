@@ -1,7 +1,8 @@
 // What a search over a day network works and answers in. The methods are in the modules below, since their contracts speak of it.
 ghost use Rattle.std.specs.Prelude.{◌≡◌, length};
 
-use search::{ArcEntry, NodeEntry, Visit};
+use flow::Arc;
+use search::{NodeEntry, Visit};
 
 mod asking;
 mod making;
@@ -16,7 +17,9 @@ pub struct Planner {
     loads: Vec<u32>,
     marks: Vec<u16>,
     figures: Vec<u64>,
-    arcs: Vec<ArcEntry>,
+    arcs: Vec<Arc>,
+    next_out: Vec<u16>,
+    next_in: Vec<u16>,
     nodes: Vec<NodeEntry>,
     visits: Vec<Visit>,
     slots: Vec<u16>,
@@ -24,6 +27,8 @@ pub struct Planner {
     ghost marks_fit: { length marks.items ≡ 1554 },
     ghost figures_fit: { length figures.items ≡ 49 },
     ghost arcs_fit: { length arcs.items ≡ 5392 },
+    ghost out_fit: { length next_out.items ≡ 5392 },
+    ghost in_fit: { length next_in.items ≡ 5392 },
     ghost nodes_fit: { length nodes.items ≡ 1554 },
     ghost visits_fit: { length visits.items ≡ 1554 },
     ghost slots_fit: { length slots.items ≡ 1554 },

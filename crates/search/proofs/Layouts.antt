@@ -1,33 +1,22 @@
 -- What a layout lays out is a sound network.
 use Rattle.std.proofs.Common.{◌≡◌, ℕ, ◌*◌, ◌<◌, ◌≤◌, Bool, true, false, cond, eqb, List, [], ◌∷◌, length, get_or, ap, arith}
 use Rattle.std.proofs.Math.Path.{fun_ext}
-use Rattle.std.proofs.Math.ListN.{get_or-map}
 use Rattle.std.specs.List.{AllByRecursion}
 use Rattle.std.proofs.ByRecursion.{All-from_get_or}
-use Rattle.std.proofs.lemmas.List.{length-map}
 use Rattle.flow.specs.declared.Arc.{Arc}
 use Rattle.flow.specs.Network.{Network, Sound, crosses, is_ranked, wide, width}
 use Rattle.flow.specs.Pushing.{no_arc}
-use Rattle.search.specs.Entries.{no_arc_entry, arcs_of, first_at, next_at, rank_at}
+use Rattle.search.specs.Entries.{first_at, next_at, rank_at}
 use Rattle.search.specs.Links.{LinkedBy, key}
 use Rattle.search.specs.declared.end.End.{End}
 use Rattle.search.specs.Layouts.{copy_of, laid}
-use Rattle.search.specs.declared.entry.ArcEntry.{ArcEntry}
 use Rattle.search.specs.declared.entry.NodeEntry.{NodeEntry}
 use Rattle.search.specs.declared.layout.Layout.{Layout}
-
--- there are as many arcs as entries
-pub arcs_length : (entries : List ArcEntry) → length (arcs_of entries) ≡ length entries
-arcs_length entries = length-map entries (λ x. x.arc)
-
--- an entry's arc, or none
-pub arc_at : (entries : List ArcEntry) (e : ℕ) → get_or (arcs_of entries) e no_arc ≡ (get_or entries e no_arc_entry).arc
-arc_at entries e = get_or-map (λ x. x.arc) entries e no_arc_entry
 
 pub laid_sound : (m : Layout) → Sound (laid m)
 laid_sound m = record {
   within = m.within;
-  ends = All-from_get_or (λ a. (a.tail < length m.nodes.now) × (a.head < length m.nodes.now)) (arcs_of m.arcs.now) no_arc (λ i l. ((m.proper i l).0, (m.proper i l).1));
+  ends = All-from_get_or (λ a. (a.tail < length m.nodes.now) × (a.head < length m.nodes.now)) m.arcs.now no_arc (λ i l. ((m.proper i l).0, (m.proper i l).1));
   unranked = ap is_ranked m.bare;
 }
 
@@ -42,13 +31,13 @@ wide_bound X (a ∷ es) low = omega (arith, cond_le (crosses X a) a.capacity, wi
 
 pub source_width : (m : Layout) → width (laid m) (eqb (laid m).source) ≤ 1509798445056
 source_width m =
-    let low = All-from_get_or (λ a. a.capacity ≤ 46075392) (arcs_of m.arcs.now) no_arc (λ i l. (m.proper i l).2) in
-    omega (arith, wide_bound (eqb m.source) (arcs_of m.arcs.now) low, arcs_length m.arcs.now, m.few_arcs)
+    let low = All-from_get_or (λ a. a.capacity ≤ 46075392) m.arcs.now no_arc (λ i l. (m.proper i l).2) in
+    omega (arith, wide_bound (eqb m.source) m.arcs.now low, m.few_arcs)
 
--- entries that have the numbers, the arcs and the ranks of a network are that network
-pub copy_is : (N : Network) (source : ℕ) (arcs : List ArcEntry) (nodes : List NodeEntry) → source ≡ N.source → arcs_of arcs ≡ N.arcs → length nodes ≡ N.nodes → ((v : ℕ) → rank_at nodes v ≡ N.rank v) → copy_of source arcs nodes ≡ N
+-- arcs and entries that are those of a network are that network
+pub copy_is : (N : Network) (source : ℕ) (arcs : List Arc) (nodes : List NodeEntry) → source ≡ N.source → arcs ≡ N.arcs → length nodes ≡ N.nodes → ((v : ℕ) → rank_at nodes v ≡ N.rank v) → copy_of source arcs nodes ≡ N
 copy_is N source arcs nodes starts same sized ranks = let rank : rank_at nodes ≡ N.rank = fun_ext ranks in λ i. record { nodes = sized i; source = starts i; arcs = same i; rank = rank i }
 
 -- its arcs are linked
-pub laid_linked : (m : Layout) (end : End) → LinkedBy (key end (laid m).arcs) (laid m).nodes (length (laid m).arcs) (first_at end m.nodes.now) (next_at end m.arcs.now)
-laid_linked m end = rw (arcs_length m.arcs.now) (m.linked end)
+pub laid_linked : (m : Layout) (end : End) → LinkedBy (key end (laid m).arcs) (laid m).nodes (length (laid m).arcs) (first_at end m.nodes.now) (next_at end m.next_out.now m.next_in.now)
+laid_linked m end = m.linked end

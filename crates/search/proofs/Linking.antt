@@ -4,11 +4,11 @@ use Rattle.std.proofs.lemmas.List.{get_or-set_same, get_or-set_other, length-set
 use Rattle.std.proofs.lemmas.Bool.{cases_eq}
 use Rattle.flow.specs.declared.Arc.{Arc}
 use Rattle.search.specs.Ends.{end_of, other}
-use Rattle.search.specs.Entries.{no_arc_entry, no_node_entry, link_at, first_at, next_at, rank_at, relinked}
+use Rattle.search.specs.Entries.{no_node_entry, link_at, links_at, first_at, next_at, rank_at, relinked}
 use Rattle.search.specs.Links.{LinkedBy}
 use Rattle.search.specs.declared.end.End.{End}
 use Rattle.search.specs.declared.end.End.TheVariants.{Tail, Head}
-use Rattle.search.specs.declared.entry.ArcEntry.{ArcEntry}
+use Rattle.search.specs.declared.entry.Links.{Links}
 use Rattle.search.specs.declared.entry.NodeEntry.{NodeEntry}
 use Rattle.search.proofs.Latest.{linked_more}
 
@@ -52,9 +52,17 @@ module _ (nodes : List NodeEntry) (v link : ℕ) (within : v < length nodes) whe
 abbrev pub linked_at : List NodeEntry → Arc → ℕ → List NodeEntry
 linked_at nodes a link = relinked_at Head (relinked_at Tail nodes a.tail link) a.head link
 
--- and the entry of that arc
-abbrev pub entry_of : List NodeEntry → Arc → ℕ → ArcEntry
-entry_of nodes a link = record { arc = a; next = record { out = first_at Tail nodes a.tail; back = first_at Head (relinked_at Tail nodes a.tail link) a.head } }
+-- and the links of that arc
+abbrev pub links_of : List NodeEntry → Arc → ℕ → Links
+links_of nodes a link = record { out = first_at Tail nodes a.tail; back = first_at Head (relinked_at Tail nodes a.tail link) a.head }
+
+-- the links of an arc, once they are written
+module _ (next_out next_in : List ℕ) (e : ℕ) (x : Links) where
+  links_here : e < length next_out → e < length next_in → links_at (set next_out e x.out) (set next_in e x.back) e ≡ x
+  links_here o i = λ j. record { out = get_or-set_same next_out e x.out 0 o j; back = get_or-set_same next_in e x.back 0 i j }
+
+  links_elsewhere : (k : ℕ) → k ≢ e → links_at (set next_out e x.out) (set next_in e x.back) k ≡ links_at next_out next_in k
+  links_elsewhere k d = λ j. record { out = get_or-set_other next_out e k x.out 0 d j; back = get_or-set_other next_in e k x.back 0 d j }
 
 module _ (nodes : List NodeEntry) (a : Arc) (link : ℕ) (tail : a.tail < length nodes) (head : a.head < length nodes) where
   abbrev between : List NodeEntry
@@ -74,7 +82,7 @@ module _ (nodes : List NodeEntry) (a : Arc) (link : ℕ) (tail : a.tail < length
   old_first Tail v d = across between a.head link long Head v ∙ other_links nodes a.tail link tail Tail v d
   old_first Head v d = other_links between a.head link long Head v d ∙ across nodes a.tail link tail Tail v
 
-  new_next : (end : End) → link_at end (entry_of nodes a link).next ≡ first_at end nodes (end_of end a)
+  new_next : (end : End) → link_at end (links_of nodes a link) ≡ first_at end nodes (end_of end a)
   new_next Tail = refl
   new_next Head = across nodes a.tail link tail Tail a.head
 
@@ -82,14 +90,15 @@ module _ (nodes : List NodeEntry) (a : Arc) (link : ℕ) (tail : a.tail < length
   within_nodes Tail = tail
   within_nodes Head = head
 
-  pub link_arc : (end : End) (at : ℕ → ℕ) (entries : List ArcEntry) (e : ℕ) → link ≡ e + 1 → at e ≡ end_of end a → e < length entries → LinkedBy at (length nodes) e (first_at end nodes) (next_at end entries)
-      → LinkedBy at (length (linked_at nodes a link)) (e + 1) (first_at end (linked_at nodes a link)) (next_at end (set entries e (entry_of nodes a link)))
-  link_arc end at entries e is there in' so =
+  pub link_arc : (end : End) (at : ℕ → ℕ) (next_out next_in : List ℕ) (e : ℕ) → link ≡ e + 1 → at e ≡ end_of end a → e < length next_out → e < length next_in
+      → LinkedBy at (length nodes) e (first_at end nodes) (next_at end next_out next_in)
+      → LinkedBy at (length (linked_at nodes a link)) (e + 1) (first_at end (linked_at nodes a link)) (next_at end (set next_out e (links_of nodes a link).out) (set next_in e (links_of nodes a link).back))
+  link_arc end at next_out next_in e is there in-out in-in so =
       let size : length (linked_at nodes a link) ≡ length nodes = length-set between a.head _ ∙ length-set nodes a.tail _ in
       rw size
-      (linked_more at (length nodes) e (first_at end nodes) (next_at end entries) (first_at end (linked_at nodes a link)) (next_at end (set entries e (entry_of nodes a link))) so
+      (linked_more at (length nodes) e (first_at end nodes) (next_at end next_out next_in) (first_at end (linked_at nodes a link)) (next_at end (set next_out e (links_of nodes a link).out) (set next_in e (links_of nodes a link).back)) so
       (rw there (within_nodes end))
       (ap (first_at end (linked_at nodes a link)) there ∙ new_first end ∙ is)
       (λ v d. old_first end v (λ q. d (q ∙ sym there)))
-      (ap (λ x. link_at end x.next) (get_or-set_same entries e (entry_of nodes a link) no_arc_entry in') ∙ new_next end ∙ ap (first_at end nodes) (sym there))
-      (λ k l. ap (λ x. link_at end x.next) (get_or-set_other entries e k (entry_of nodes a link) no_arc_entry (λ q. omega arith))))
+      (ap (link_at end) (links_here next_out next_in e (links_of nodes a link) in-out in-in) ∙ new_next end ∙ ap (first_at end nodes) (sym there))
+      (λ k l. ap (link_at end) (links_elsewhere next_out next_in e (links_of nodes a link) k (λ q. omega arith))))

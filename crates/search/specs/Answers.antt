@@ -9,7 +9,8 @@ use Rattle.search.specs.declared.serving.Work.{Work}
 -- each list to work in has an entry for each node, or for each arc
 abbrev pub has_room : Work → ℕ → ℕ → Bool
 has_room w nodes arcs =
-    nat_le arcs (length w.arcs.now) && nat_le nodes (length w.nodes.now) && nat_le nodes (length w.visits.now) && nat_le nodes (length w.slots.now)
+    nat_le arcs (length w.arcs.now) && nat_le arcs (length w.next_out.now) && nat_le arcs (length w.next_in.now)
+    && nat_le nodes (length w.nodes.now) && nat_le nodes (length w.visits.now) && nat_le nodes (length w.slots.now)
 
 -- the first thing that is wrong with what is handed in, if anything is
 abbrev pub checked : ℕ → ℕ → ℕ → Bool → List ℕ → List ℕ → List ℕ → Result Unit SearchError
@@ -37,6 +38,8 @@ Answers N ranks room loads loads' marks marks' figures figures' r =
 -- Inside: the lists to work in have just the entries that are needed.
 pub record Suits (w : Work) (node_count arc_count : ℕ) : Type 0 where
   pub arcs : length w.arcs.now ≡ arc_count
+  pub next_out : length w.next_out.now ≡ arc_count
+  pub next_in : length w.next_in.now ≡ arc_count
   pub nodes : length w.nodes.now ≡ node_count
   pub visits : length w.visits.now ≡ node_count
   pub slots : length w.slots.now ≡ node_count

@@ -3,9 +3,8 @@ use Rattle.std.specs.Prelude.{◌≡◌, ℕ, zero, suc, ◌<◌, if◌then◌el
 use Rattle.flow.specs.Pushing.{no_arc}
 use Rattle.flow.specs.declared.Arc.{Arc}
 use Rattle.search.specs.Ends.{end_of}
-use Rattle.search.specs.Entries.{arcs_of, first_at, next_at}
+use Rattle.search.specs.Entries.{first_at, next_at}
 use Rattle.search.specs.declared.end.End.{End}
-use Rattle.search.specs.declared.entry.ArcEntry.{ArcEntry}
 use Rattle.search.specs.declared.entry.NodeEntry.{NodeEntry}
 
 -- the node at that end of the arc numbered e
@@ -23,5 +22,5 @@ LinkedBy at nodes n first next =
     ((v : ℕ) → v < nodes → first v ≡ latest at v n) × ((e : ℕ) → e < n → next e ≡ latest at (at e) e)
 
 -- all arcs are linked at either end
-abbrev pub Linked : List ArcEntry → List NodeEntry → Type 0
-Linked arcs nodes = (end : End) → LinkedBy (key end (arcs_of arcs)) (length nodes) (length arcs) (first_at end nodes) (next_at end arcs)
+abbrev pub Linked : List Arc → List ℕ → List ℕ → List NodeEntry → Type 0
+Linked arcs next_out next_in nodes = (end : End) → LinkedBy (key end arcs) (length nodes) (length arcs) (first_at end nodes) (next_at end next_out next_in)

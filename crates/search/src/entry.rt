@@ -1,14 +1,13 @@
-// What a search keeps of each arc and of each node. The arcs that have a node at one of their ends are linked: the node has
-// the number of the last of them, and each of them that of the one before it.
+// What a search keeps of each node. The arcs that have a node at one of their ends are linked: the node has the number of the last
+// of them, and each of them that of the one before it.
 ghost use Rattle.std.specs.Prelude.{◌≡◌};
 ghost use Rattle.flow.specs.Network.{is_below};
 ghost use Rattle.search.specs.Entries.{link_at, linked, relinked};
 
 use crate::end::End;
-use flow::Arc;
 use std::mem;
 
-// Links to two arcs, one by the tail and one by the head that the arcs share with what is linked.
+// Links to two arcs, the last that leaves a node and the last that enters it.
 // A link is one more than the number of an arc, and 0 for none: in 16 bits, where an `Option` would take 32, since a search has
 // 16 bytes for each arc.
 #[derive(Clone, Copy, Default)]
@@ -17,14 +16,7 @@ pub struct Links {
     pub back: u16,
 }
 
-// An arc, and links to the arcs before it at its own ends.
-#[derive(Clone, Copy, Default)]
-pub struct ArcEntry {
-    pub arc: Arc,
-    pub next: Links,
-}
-
-// The rank of a node, and links to the last arcs that leave and that enter it.
+// The rank of a node, and the links to its arcs.
 #[derive(Clone, Copy, Default)]
 pub struct NodeEntry {
     pub rank: Option<u16>,

@@ -13,7 +13,7 @@ mod visit;
 mod way;
 
 pub use end::End;
-pub use entry::{ArcEntry, Links, NodeEntry};
+pub use entry::{Links, NodeEntry};
 pub use error::SearchError;
 pub use serving::{Work, serve};
 pub use visit::Visit;

@@ -11,11 +11,14 @@ use crate::layout::Layout;
 use crate::visit::Visit;
 use crate::way::{Ways, drain_again};
 
+// Other ways are looked for in at most this part of the steps of a search.
+pub(crate) const SHARE: u32 = 8;
+
 // Sends more to the nodes of the ranks below k until none of them is reached, and says how much in all. The visits say what can be
 // reached, before and after it.
 // (How long slots are is said of the list handed in: it is written, so no struct holds it. Between searches the slots tell which
-// nodes are shut. Other ways are looked for with patience: at most two steps for each node that the last search reached, half as many
-// as before after a round that found none, and twice as many after one that did. How long is a hint that nothing rests on.)
+// nodes are shut. Other ways are looked for with patience: in half as many steps as before after a round that found none, in twice as
+// many after one that did, and in no more than a share of those of the last search. How many is a hint that nothing rests on.)
 pub(crate) fn saturate(
     map: Layout,
     k: u16,
@@ -42,12 +45,12 @@ pub(crate) fn saturate(
         total += more;
         let again = drain_again(map, k, loads, visits, slots, *patience);
         total += again;
-        let reached = Residual { map, loads }.explore(visits, slots);
+        let steps = Residual { map, loads }.explore(visits, slots);
         let next = if again > 0 {
             patience.saturating_mul(2)
         } else {
             *patience / 2
         };
-        *patience = next.min(reached.saturating_mul(2));
+        *patience = next.min(steps / SHARE);
     }
 }

@@ -6,12 +6,13 @@ ghost use Rattle.search.specs.Served.{Served, Standing};
 ghost use Rattle.search.specs.Visits.{reached};
 
 use crate::copying::{copy_arcs, copy_nodes};
-use crate::entry::{ArcEntry, NodeEntry};
+use crate::entry::NodeEntry;
 use crate::error::SearchError;
 use crate::flood::Residual;
 use crate::layout::Layout;
-use crate::rounds::saturate;
+use crate::rounds::{SHARE, saturate};
 use crate::visit::Visit;
+use flow::Arc;
 use network::Network;
 
 // The most ranks that can be asked for; every rank of a network is below it.
@@ -22,7 +23,9 @@ const MOST_RANKS: u16 = 1024;
 #[derive(Drop)]
 pub struct Work<'a> {
     // for each arc
-    pub arcs: &'a mut [ArcEntry],
+    pub arcs: &'a mut [Arc],
+    pub next_out: &'a mut [u16],
+    pub next_in: &'a mut [u16],
     // for each node
     pub nodes: &'a mut [NodeEntry],
     pub visits: &'a mut [Visit],
@@ -35,6 +38,8 @@ impl Work<'_> {
         ensures { result ≡ has_room self.now nodes arcs }
     {
         self.arcs.len() >= arcs
+            && self.next_out.len() >= arcs
+            && self.next_in.len() >= arcs
             && self.nodes.len() >= nodes
             && self.visits.len() >= nodes
             && self.slots.len() >= nodes
@@ -74,8 +79,8 @@ fn serve_ranks(
     requires start { Standing (laid map) 0 loads.old marks.old figures.old }
     ensures { Standing (laid map.entry) (ranks + 1) loads.new marks.new figures.new }
 {
-    let reached = Residual { map, loads }.explore(visits, slots);
-    let mut patience = reached.saturating_mul(2);
+    let steps = Residual { map, loads }.explore(visits, slots);
+    let mut patience = steps / SHARE;
     // Over the figures the round for k = 0, which has none, would have to stand before the loop once more.
     for k in 0..ranks + 1 {
         let gained = saturate(map, k, loads, visits, slots, &mut patience);
@@ -104,17 +109,21 @@ fn serve_exactly<N: Network>(
 {
     let Work {
         arcs,
+        next_out,
+        next_in,
         nodes,
         visits,
         slots,
     } = work;
     copy_nodes(net, nodes);
-    copy_arcs(net, arcs, nodes);
+    copy_arcs(net, arcs, next_out, next_in, nodes);
     loads.fill(0);
     marks.fill(0);
     let map = Layout {
         source: net.source() as u16,
         arcs,
+        next_out,
+        next_in,
         nodes,
     };
     serve_ranks(map, ranks, loads, marks, figures, visits, slots);
@@ -158,19 +167,23 @@ pub fn serve<N: Network>(
     work: Work,
 ) -> Result<(), SearchError>
     ensures answer { Answers (N.meaning net.now) ranks (has_room work.entry (N.meaning net.now).nodes (length (N.meaning net.now).arcs)) loads.old loads.new marks.old marks.new figures.old figures.new result }
-    ensures untouched { is_ok result ≡ false → (work.exit.0.now ≡ work.entry.arcs.now) × (work.exit.1.0.now ≡ work.entry.nodes.now) × (work.exit.1.1.0.now ≡ work.entry.visits.now) × (work.exit.1.1.1.0.now ≡ work.entry.slots.now) }
+    ensures untouched { is_ok result ≡ false → (work.exit.0.now ≡ work.entry.arcs.now) × (work.exit.1.0.now ≡ work.entry.next_out.now) × (work.exit.1.1.0.now ≡ work.entry.next_in.now) × (work.exit.1.1.1.0.now ≡ work.entry.nodes.now) × (work.exit.1.1.1.1.0.now ≡ work.entry.visits.now) × (work.exit.1.1.1.1.1.0.now ≡ work.entry.slots.now) }
 {
     let node_count = net.node_count();
     let arc_count = net.arc_count();
     check_lists(node_count, arc_count, ranks, loads, marks, figures, &work)?;
     let Work {
         arcs,
+        next_out,
+        next_in,
         nodes,
         visits,
         slots,
     } = work;
     let exact = Work {
         arcs: &mut arcs[0..arc_count],
+        next_out: &mut next_out[0..arc_count],
+        next_in: &mut next_in[0..arc_count],
         nodes: &mut nodes[0..node_count],
         visits: &mut visits[0..node_count],
         slots: &mut slots[0..node_count],

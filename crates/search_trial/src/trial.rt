@@ -3,8 +3,9 @@
 ghost use Rattle.std.specs.Prelude.{◌≡◌, length};
 ghost use Rattle.network.specs.Stored.{stored_meaning};
 
+use flow::Arc;
 use network::StoredNetwork;
-use search::{ArcEntry, NodeEntry, SearchError, Visit};
+use search::{NodeEntry, SearchError, Visit};
 
 mod entries;
 mod error;
@@ -22,7 +23,9 @@ pub struct Trial {
     loads: Vec<u32>,
     marks: Vec<u16>,
     figures: Vec<u64>,
-    arcs: Vec<ArcEntry>,
+    arcs: Vec<Arc>,
+    next_out: Vec<u16>,
+    next_in: Vec<u16>,
     nodes: Vec<NodeEntry>,
     visits: Vec<Visit>,
     slots: Vec<u16>,
@@ -31,6 +34,8 @@ pub struct Trial {
     ghost marks_fit: { length marks.items ≡ (stored_meaning net).nodes },
     ghost figures_fit: { length figures.items ≡ ranks },
     ghost arcs_fit: { length arcs.items ≡ length (stored_meaning net).arcs },
+    ghost out_fit: { length next_out.items ≡ length (stored_meaning net).arcs },
+    ghost in_fit: { length next_in.items ≡ length (stored_meaning net).arcs },
     ghost nodes_fit: { length nodes.items ≡ (stored_meaning net).nodes },
     ghost visits_fit: { length visits.items ≡ (stored_meaning net).nodes },
     ghost slots_fit: { length slots.items ≡ (stored_meaning net).nodes },

@@ -149,11 +149,13 @@ mod tests {
         assert_eq!(rt; short.take_run(&mut legs), Err(ListTooShort));
         assert_eq!(rt; short.take_run(&mut legs), Err(ListTooShort));
         assert_eq!(rt; (loads[0], loads[count - 2]), (7, 7));
-        let mut sheet = RunSheet::lay(&board, &mut loads[..count]);
+        let mut enough = [7; 4608];
+        let mut sheet = RunSheet::lay(&board, &mut enough[..count]);
         assert_eq!(rt; sheet.take_run(&mut legs[..longest - 1]), Err(ListTooShort));
         assert_eq!(rt; legs[0], NO_LEG);
-        assert_eq!(rt; sheet.take_run(&mut legs[..longest]), Ok(Some(1)));
-        assert_eq!(rt; (legs[0].lane, legs[0].pallets), (0, 3));
+        let mut run = [NO_LEG; 47];
+        assert_eq!(rt; sheet.take_run(&mut run[..longest]), Ok(Some(1)));
+        assert_eq!(rt; (run[0].lane, run[0].pallets), (0, 3));
         Ok(())
     }
 

@@ -25,6 +25,8 @@ impl Planner {
             &mut self.marks,
             &mut self.figures,
             &mut self.arcs,
+            &mut self.next_out,
+            &mut self.next_in,
             &mut self.nodes,
             &mut self.visits,
             &mut self.slots,

@@ -1,6 +1,7 @@
 // How a planner is made.
 use super::Planner;
-use search::{ArcEntry, NodeEntry, Visit};
+use flow::Arc;
+use search::{NodeEntry, Visit};
 use std::alloc::{AllocError, Global};
 
 // The arcs of the largest day network.
@@ -19,7 +20,9 @@ impl Planner {
             loads: vec![in heap; 0u32; MOST_ARCS]?,
             marks: vec![in heap; 0u16; NODES]?,
             figures: vec![in heap; 0u64; MOST_RANKS]?,
-            arcs: vec![in heap; ArcEntry::default(); MOST_ARCS]?,
+            arcs: vec![in heap; Arc::default(); MOST_ARCS]?,
+            next_out: vec![in heap; 0u16; MOST_ARCS]?,
+            next_in: vec![in heap; 0u16; MOST_ARCS]?,
             nodes: vec![in heap; NodeEntry::default(); NODES]?,
             visits: vec![in heap; Visit::default(); NODES]?,
             slots: vec![in heap; 0u16; NODES]?,

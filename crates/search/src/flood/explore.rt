@@ -10,8 +10,8 @@ use crate::visit::{Visit, clear, reach};
 use queue::Queue;
 
 impl Residual<'_> {
-    // Reaches what can be reached from the node along the arcs that have it at the given end.
-    fn scan(&self, end: End, node: u16, visits: &mut [Visit], waiting: &mut Queue<u16>)
+    // Reaches what can be reached from the node along the arcs that have it at the given end, and counts these arcs.
+    fn scan(&self, end: End, node: u16, visits: &mut [Visit], waiting: &mut Queue<u16>) -> u32
         requires slots { slot_count waiting.old ≡ (laid self.now.map).nodes }
         requires so { Searching (laid self.now.map) self.now.loads.now visits.old (node ∷ items waiting.old) }
         ensures so { Searching (laid self.now.map) self.now.loads.now visits.new (node ∷ items waiting.new) }
@@ -21,6 +21,7 @@ impl Residual<'_> {
         ensures slots { slot_count waiting.new ≡ slot_count waiting.old }
     {
         let level = visits[node as usize].level + 1;
+        let mut arcs = 0u32;
         let mut at = self.map.nodes[node as usize].first.at(end);
         while let Some(e) = at {
             let arc = self.map.arc(e);
@@ -33,38 +34,41 @@ impl Residual<'_> {
                 };
                 reach(visits, waiting, target, visit);
             }
-            at = self.map.arcs[e as usize].next.at(end);
+            arcs = arcs.wrapping_add(1);
+            at = self.map.next(end, e);
         }
+        arcs
     }
 
-    // Reaches what can be reached from the node along one arc.
-    fn expand(&self, node: u16, visits: &mut [Visit], waiting: &mut Queue<u16>)
+    // Reaches what can be reached from the node along one arc, and counts the arcs at it.
+    fn expand(&self, node: u16, visits: &mut [Visit], waiting: &mut Queue<u16>) -> u32
         requires slots { slot_count waiting.old ≡ (laid self.now.map).nodes }
         requires so { Searching (laid self.now.map) self.now.loads.now visits.old (node ∷ items waiting.old) }
         ensures so { Searching (laid self.now.map) self.now.loads.now visits.new (items waiting.new) }
         ensures paced { Paced visits.old visits.new (items waiting.old) (items waiting.new) }
         ensures slots { slot_count waiting.new ≡ slot_count waiting.old }
     {
-        self.scan(End::Tail, node, visits, waiting);
-        self.scan(End::Head, node, visits, waiting);
+        let leaving = self.scan(End::Tail, node, visits, waiting);
+        let entering = self.scan(End::Head, node, visits, waiting);
+        leaving.wrapping_add(entering)
     }
 
-    // Goes on until no node waits, and counts the nodes.
+    // Goes on until no node waits, and counts the nodes and the arcs at them.
     fn flood(&self, visits: &mut [Visit], waiting: &mut Queue<u16>) -> u32
         requires slots { slot_count waiting.old ≡ (laid self.now.map).nodes }
         requires so { Searching (laid self.now.map) self.now.loads.now visits.old (items waiting.old) }
         ensures { Searching (laid self.now.map) self.now.loads.now visits.new [] }
     {
-        let mut reached = 0u32;
+        let mut steps = 0u32;
         while let Some(node) = waiting.pop() {
-            self.expand(node, visits, waiting);
-            reached = reached.saturating_add(1);
+            let arcs = self.expand(node, visits, waiting);
+            steps = steps.wrapping_add(arcs).wrapping_add(1);
         }
-        reached
+        steps
     }
 
-    // Visits each node that can be reached from the source along arcs that may be crossed, and counts them. (How many they are is
-    // a hint of what a search costs, and not said.)
+    // Visits each node that can be reached from the source along arcs that may be crossed, and says in how many steps: one for each
+    // such node and one for each of its ends of an arc. (They are a hint of what a search costs, on which nothing rests.)
     pub(crate) fn explore(&self, visits: &mut [Visit], slots: &mut [u16]) -> u32
         requires visits { length visits.old ≡ (laid self.now.map).nodes }
         requires slots { length slots.old ≡ (laid self.now.map).nodes }

@@ -1,7 +1,7 @@
 // Other ways to the nodes that a search reached, on the levels that it gave them.
 // Which nodes are shut is only a hint, as is what `reopen` answers: whoever sends along a way finds what it has room for. So it may
-// be given up at any time, and is once the patience that it is given has gone: a number of steps, of which each arc that is looked
-// at takes one, and each node that is shut on the way to another as many as the level of that other.
+// be given up at any time, and is once the patience that it is given has gone: a number of steps. Each arc that is looked at takes
+// one, and so does each node on the way back, as often as it is gone over, to send along the way too.
 ghost use Rattle.std.specs.Prelude.{◌≡◌, ◌<◌, IfSome, length};
 ghost use Rattle.search.specs.Layouts.{laid};
 ghost use Rattle.search.specs.Visits.{Enters, Reentered, Tree, level};
@@ -53,7 +53,7 @@ impl Residual<'_> {
                     side: end,
                 });
             }
-            at = self.map.arcs[e as usize].next.at(end.other());
+            at = self.map.next(end.other(), e);
         }
         None
     }
@@ -103,7 +103,8 @@ impl Residual<'_> {
     }
 
     // Opens a way to the node, if one is found on the levels of the search while patience lasts, and says whether one is. Each turn
-    // shuts a node for which no arc was found, so there are no more turns than nodes.
+    // shuts a node for which no arc was found, so there are no more turns than nodes. A way is not looked for where patience would
+    // not last to go over it three times: to find it, to find its room, and to send.
     pub(crate) fn reopen(
         &self,
         visits: &mut [Visit],
@@ -116,18 +117,20 @@ impl Residual<'_> {
         requires reached { 0 < level visits.old node }
         ensures { Reentered (laid self.now.map) visits.old visits.new }
     {
+        let length = u32::from(visits[node].level);
         for _ in 0..self.map.nodes.len() {
-            if *patience == 0 {
+            if *patience < 3 * length {
                 return false;
             }
             let Some(at) = self.go_back(visits, shut, node, patience) else {
+                *patience = patience.saturating_sub(3 * length);
                 return true;
             };
             shut[at] = 1;
             if at == node {
                 return false;
             }
-            *patience = patience.saturating_sub(u32::from(visits[node].level));
+            *patience = patience.saturating_sub(length);
         }
         false
     }

@@ -40,31 +40,6 @@ fn press(
     total
 }
 
-// Sends more to the node along other ways if it is reached and has a rank below k, and says how much.
-fn feed_again(
-    map: Layout,
-    k: u16,
-    loads: &mut [u32],
-    visits: &mut [Visit],
-    shut: &mut [u16],
-    node: usize,
-    patience: &mut u32,
-) -> u64
-    requires flow { Flow (laid map) loads.old }
-    requires idle { Idle (laid map) k loads.old }
-    requires tree { Tree (laid map) visits.old }
-    requires shut { length shut.old ≡ (laid map).nodes }
-    requires within { node < (laid map).nodes }
-    ensures gained { Gained (laid map.entry) k loads.old loads.new result }
-    ensures again { Reentered (laid map.entry) visits.old visits.new }
-{
-    if visits[node].level > 0 && map.nodes[node].is_below(k) {
-        press(map, k, loads, visits, shut, node, patience)
-    } else {
-        0
-    }
-}
-
 // Sends more to each node of a rank below k that is reached, along whatever ways can be opened with this patience, and says how
 // much in all.
 pub(crate) fn drain_again(
@@ -87,7 +62,9 @@ pub(crate) fn drain_again(
     shut.fill(0);
     let mut total = 0;
     for node in 0..map.nodes.len() {
-        total += feed_again(map, k, loads, visits, shut, node, &mut patience);
+        if visits[node].level > 0 && map.nodes[node].is_below(k) {
+            total += press(map, k, loads, visits, shut, node, &mut patience);
+        }
     }
     total
 }

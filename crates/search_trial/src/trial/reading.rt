@@ -7,8 +7,9 @@ ghost use Rattle.search_trial.specs.Reading.{Fresh, Reads};
 use super::{Trial, TrialError};
 use crate::numbers::Numbers;
 use crate::trial::entries::{FromNumbers, read_list};
+use flow::Arc;
 use network::{Network, StoredNetwork};
-use search::{ArcEntry, NodeEntry, Visit};
+use search::{NodeEntry, Visit};
 use std::alloc::{AllocError, Global};
 
 impl Trial {
@@ -37,7 +38,9 @@ impl Trial {
             loads: vec![in heap; 0u32; count]?,
             marks: vec![in heap; 0u16; nodes]?,
             figures: vec![in heap; 0u64; usize::from(ranks)]?,
-            arcs: vec![in heap; ArcEntry::default(); count]?,
+            arcs: vec![in heap; Arc::default(); count]?,
+            next_out: vec![in heap; 0u16; count]?,
+            next_in: vec![in heap; 0u16; count]?,
             nodes: vec![in heap; NodeEntry::default(); nodes]?,
             visits: vec![in heap; Visit::default(); nodes]?,
             slots: vec![in heap; 0u16; nodes]?,

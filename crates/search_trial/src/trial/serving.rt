@@ -4,8 +4,9 @@ ghost use Rattle.network.specs.Stored.{stored_meaning};
 ghost use Rattle.search_trial.specs.Serving.{Gets, Serves, text_of};
 
 use super::Trial;
+use flow::Arc;
 use network::StoredNetwork;
-use search::{ArcEntry, NodeEntry, SearchError, Visit, Work, serve};
+use search::{NodeEntry, SearchError, Visit, Work, serve};
 use std::fmt;
 
 // The search, with the lists that it works in one by one: so that a caller knows that each keeps its length.
@@ -15,18 +16,22 @@ fn serve_with(
     loads: &mut [u32],
     marks: &mut [u16],
     figures: &mut [u64],
-    arcs: &mut [ArcEntry],
+    arcs: &mut [Arc],
+    next_out: &mut [u16],
+    next_in: &mut [u16],
     nodes: &mut [NodeEntry],
     visits: &mut [Visit],
     slots: &mut [u16],
 ) -> Result<(), SearchError>
-    requires for_arcs { let m = length (stored_meaning net.now).arcs in (length loads.old ≡ m) × (length arcs.old ≡ m) }
+    requires for_arcs { let m = length (stored_meaning net.now).arcs in (length loads.old ≡ m) × (length arcs.old ≡ m) × (length next_out.old ≡ m) × (length next_in.old ≡ m) }
     requires for_nodes { let n = (stored_meaning net.now).nodes in (length marks.old ≡ n) × (length nodes.old ≡ n) × (length visits.old ≡ n) × (length slots.old ≡ n) }
     requires for_ranks { length figures.old ≡ ranks }
     ensures { Gets (stored_meaning net.now) ranks loads.old loads.new marks.old marks.new figures.old figures.new result }
 {
     let work = Work {
         arcs,
+        next_out,
+        next_in,
         nodes,
         visits,
         slots,
@@ -46,6 +51,8 @@ impl Trial {
             &mut self.marks,
             &mut self.figures,
             &mut self.arcs,
+            &mut self.next_out,
+            &mut self.next_in,
             &mut self.nodes,
             &mut self.visits,
             &mut self.slots,

@@ -16,7 +16,7 @@ rounds-preserved c =
     let N = laid c.args.map in
     let some = gain_on N c.args.k c.args.loads.now c.rounds.loads c.drain-more.new.loads c.rounds.total c.drain-more.result c.rounds.invariant.0 c.drain-more.ensures.gained in
     let all = gain_on N c.args.k c.args.loads.now c.drain-more.new.loads c.drain_again-again.new.loads (c.rounds.total + c.drain-more.result) c.drain_again-again.result some c.drain_again-again.ensures.gained in
-    (all, c.explore-reached.ensures, c.explore-reached.auto.slots ∙ c.drain_again-again.auto.shut ∙ c.rounds.invariant.2)
+    (all, c.explore-steps.ensures, c.explore-steps.auto.slots ∙ c.drain_again-again.auto.shut ∙ c.rounds.invariant.2)
 
 pub overflow_add-total-in-rounds : goal.overflow_add-total-in-rounds
 overflow_add-total-in-rounds c =

@@ -9,7 +9,7 @@ pub serve_with-requires-clause-for_arcs : goal.serve_with-requires-clause-for_ar
 serve_with-requires-clause-for_arcs g c =
     let n = c.args.day.now in
     let few = few_arcs (timetable_of n.schedule) n.schedule.sound (slice_index n.owed.now) (ranks_of g.R.Ranking.meaning n) in
-    (omega arith, omega arith)
+    (omega arith, omega arith, omega arith, omega arith)
 
 pub serve_with-requires-clause-for_nodes : goal.serve_with-requires-clause-for_nodes
 serve_with-requires-clause-for_nodes g c =

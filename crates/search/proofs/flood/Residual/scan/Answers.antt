@@ -22,7 +22,7 @@ loop-at-init c =
     let node = c.args.node in
     let within : node < length m.nodes.now = omega (arith, level_within c.args.visits.now node (c.requires.so.visited node (inl refl)), c.requires.so.tree.sized) in
     let at : link_to c.at-at.result ≡ first_at c.args.end m.nodes.now node = ap link_to c.at-at.ensures ∙ link_linked (first_at c.args.end m.nodes.now node) in
-    (rw at (scan_start (laid m) c.args.self.now.loads.now c.args.end c.args.visits.now (items c.args.waiting.now) node (first_at c.args.end m.nodes.now) (next_at c.args.end m.arcs.now) (laid_linked m c.args.end) c.args.visits.now (items c.args.waiting.now) c.requires.so within), refl)
+    (rw at (scan_start (laid m) c.args.self.now.loads.now c.args.end c.args.visits.now (items c.args.waiting.now) node (first_at c.args.end m.nodes.now) (next_at c.args.end m.next_out.now m.next_in.now) (laid_linked m c.args.end) c.args.visits.now (items c.args.waiting.now) c.requires.so within), refl)
 
 pub loop-at-smaller : goal.loop-at-smaller
 loop-at-smaller c =
@@ -30,7 +30,7 @@ loop-at-smaller c =
     let e = c.in-Some.e in
     let in' : e < length (laid m).arcs = omega (arith, c.loop-at.invariant.0.bound, ap link_to c.in-Some.is) in
     let at = key c.args.end (laid m).arcs in
-    let next : link_to c.at-at-in-Some.result ≡ next_at c.args.end m.arcs.now e = ap link_to c.at-at-in-Some.ensures ∙ link_linked (next_at c.args.end m.arcs.now e) in
+    let next : link_to c.next-at.result ≡ next_at c.args.end m.next_out.now m.next_in.now e = ap link_to c.next-at.ensures ∙ link_linked (next_at c.args.end m.next_out.now m.next_in.now e) in
     omega (arith, next, (laid_linked m c.args.end).1 e in', (latest_last at (at e) e).bound, ap link_to c.in-Some.is)
 
 pub loop-at-preserved : goal.loop-at-preserved
@@ -44,8 +44,8 @@ loop-at-preserved c =
     let in' : e < length N.arcs = omega (arith, inv.0.bound) in
     let here = inv.0.here e is in
     let may = c.may_cross.ensures ∙ ap (λ a. usable_by c.args.end a (get_or loads e 0)) c.arc-arc.ensures in
-    let moved : link_to c.at-at-in-Some.result ≡ next_at c.args.end m.arcs.now e = ap link_to c.at-at-in-Some.ensures ∙ link_linked (next_at c.args.end m.arcs.now e) in
-    let next = scan_next N loads c.args.end c.args.visits.now (items c.args.waiting.now) c.args.node (first_at c.args.end m.nodes.now) (next_at c.args.end m.arcs.now) (laid_linked m c.args.end) c.loop-at.visits c.if-may_cross.visits (items c.loop-at.waiting) (items c.if-may_cross.waiting) (link_to c.loop-at.at) e inv.0 is in
+    let moved : link_to c.next-at.result ≡ next_at c.args.end m.next_out.now m.next_in.now e = ap link_to c.next-at.ensures ∙ link_linked (next_at c.args.end m.next_out.now m.next_in.now e) in
+    let next = scan_next N loads c.args.end c.args.visits.now (items c.args.waiting.now) c.args.node (first_at c.args.end m.nodes.now) (next_at c.args.end m.next_out.now m.next_in.now) (laid_linked m c.args.end) c.loop-at.visits c.if-may_cross.visits (items c.loop-at.waiting) (items c.if-may_cross.waiting) (link_to c.loop-at.at) e inv.0 is in
     let old : level c.loop-at.visits c.args.node ≡ level c.args.visits.now c.args.node = inv.0.keeps c.args.node (c.requires.so.visited c.args.node (inl refl)) in
     rw moved
     (elim c.if-may_cross.branch [
